@@ -1,0 +1,7 @@
+//! The host side: everything that document 01 asks for and the Rust does not have (the event format, refusals by number,
+//! 64-bit times) around the real code, and the tools that use it.
+
+pub mod calls;
+pub mod events;
+pub mod generate;
+pub mod text;

@@ -1,0 +1,3 @@
+//! Shim: named by `storage/mod.rs`, used by nothing here.
+
+pub(crate) struct BoundedDeque;

@@ -1,0 +1,1 @@
+//! Shim: addresses from text, used by nothing here.
