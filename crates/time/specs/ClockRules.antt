@@ -1,0 +1,29 @@
+-- Document 01, "Quantities and sizes": the clock of one poll. Assumes nothing.
+use mathlib.Core.Bool.{Bool, true, false, cond}
+use lib.Dec.{ltb, leb}
+use Rattle.time.specs.declared.Instant.{Instant}
+use Rattle.time.specs.declared.Deadline.{Deadline}
+use Rattle.time.specs.declared.Deadline.the-variants.{None, At}
+use Rattle.time.specs.declared.Clock.{Clock}
+use Rattle.time.specs.declared.Answer.{Answer}
+
+-- "The clock of one poll holds now and the earliest deadline so far, or none."
+abbrev pub idle : Instant → Clock
+idle t = record { now = t; deadline = None }
+
+-- "Asking whether t has expired: yes exactly if t <= now"
+abbrev pub hasExpired : Clock → Instant → Bool
+hasExpired c t = leb (t .0) (c .now .0)
+
+-- the earlier of the deadline so far and t
+abbrev pub sooner : Deadline → Instant → Deadline
+sooner None t = At t
+sooner (At e) t = cond (ltb (t .0) (e .0)) (At t) (At e)
+
+-- "t joins the deadline, as scheduling t does"
+abbrev pub scheduledOf : Clock → Instant → Clock
+scheduledOf c t = record { now = c .now; deadline = sooner (c .deadline) t }
+
+-- "yes exactly if t <= now; else t joins the deadline"
+abbrev pub askedOf : Clock → Instant → Answer
+askedOf c t = cond (hasExpired c t) (record { expired = true; clock = c }) (record { expired = false; clock = scheduledOf c t })

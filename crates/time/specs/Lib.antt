@@ -1,0 +1,3 @@
+pub mod TimeRules
+pub mod ClockRules
+pub mod Forward
