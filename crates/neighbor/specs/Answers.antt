@@ -1,0 +1,47 @@
+-- What the answers of the cache are on paper: document 01's number of a refusal, 0 for none, and the values of each case. Assumes nothing.
+use Prim.Native.Nat.{ℕ}
+use Rattle.wire.specs.Refusals.{numberOf}
+use Rattle.neighbor.specs.declared.State.{State}
+use Rattle.neighbor.specs.declared.State.the-variants.{Started, Incomplete, Reachable, Stale}
+use Rattle.neighbor.specs.declared.NeighborState.{NeighborState}
+use Rattle.neighbor.specs.declared.NeighborState.the-variants.{Incomplete as Resolving, Reachable as Known, Stale as Expired}
+use Rattle.neighbor.specs.declared.Entry.{Entry}
+use Rattle.neighbor.specs.declared.Neighbor.{Neighbor}
+use Rattle.neighbor.specs.declared.Answer.{Answer}
+use Rattle.neighbor.specs.declared.Answer.the-variants.{Refused as Denied, Found, Pending, NotFound}
+use Rattle.neighbor.specs.declared.Got.{Got}
+use Rattle.neighbor.specs.declared.Got.the-variants.{Refused as Rejected, Nothing, Is}
+use Rattle.neighbor.specs.declared.Outcome.{Outcome}
+use Rattle.neighbor.specs.declared.Outcome.the-variants.{Refused, Done}
+
+abbrev pub answerNumber : Answer → ℕ
+answerNumber (Denied why) = numberOf why
+answerNumber (Found h) = 0
+answerNumber Pending = 0
+answerNumber NotFound = 0
+
+abbrev pub gotNumber : Got → ℕ
+gotNumber (Rejected why) = numberOf why
+gotNumber Nothing = 0
+gotNumber (Is n) = 0
+
+abbrev pub outcomeNumber : Outcome → ℕ
+outcomeNumber (Refused why) = numberOf why
+outcomeNumber Done = 0
+
+-- "Reachable is Found, even past its time; Started and Incomplete are Pending; the rest NotFound."
+abbrev pub answerOf : State → Answer
+answerOf Started = Pending
+answerOf (Incomplete p t) = Pending
+answerOf (Reachable h t) = Found h
+answerOf (Stale h) = NotFound
+
+-- "A listing shows Started as Incomplete."
+abbrev pub listedState : State → NeighborState
+listedState Started = Resolving
+listedState (Incomplete p t) = Resolving
+listedState (Reachable h t) = Known h t
+listedState (Stale h) = Expired h
+
+abbrev pub listed : Entry → Neighbor
+listed e = record { iface = e .iface; addr = e .addr; state = listedState (e .state) }

@@ -1,0 +1,125 @@
+-- The calls of the cache: what each answers and leaves. Slots past the entries keep what they held. Assumes nothing.
+use Prim.Native.Nat.{ℕ}
+use mathlib.Core.Path.{_≡_}
+use mathlib.Core.Bool.{cond}
+use mathlib.Core.List.{List, [], _∷_}
+use lib.ListN.{take, length, getD, replicate}
+use lib.Dec.{ltb}
+use Rattle.table.specs.Table.{filled, firstOf}
+use Rattle.time.specs.declared.Instant.{Instant}
+use Rattle.time.specs.TimeRules.{addOf}
+use Rattle.wire.specs.declared.ipv6.Ipv6Addr.{Ipv6Addr}
+use Rattle.wire.specs.declared.ethernet.HardwareAddress.{HardwareAddress}
+use Rattle.wire.specs.declared.error.Check.{Check}
+use Rattle.wire.specs.declared.error.Check.the-variants.{Fine, Refused as Fails}
+use Rattle.wire.specs.Refusals.{firstRefusal, checkNumber, tooLate, noSuchIface, notUnicast, notUnicastHardware}
+use Rattle.neighbor.specs.declared.State.{State}
+use Rattle.neighbor.specs.declared.State.the-variants.{Started, Reachable}
+use Rattle.neighbor.specs.declared.Entry.{Entry}
+use Rattle.neighbor.specs.declared.NeighborCache.{NeighborCache}
+use Rattle.neighbor.specs.declared.Answer.{Answer}
+use Rattle.neighbor.specs.declared.Answer.the-variants.{Refused as Denied, NotFound}
+use Rattle.neighbor.specs.declared.Got.{Got}
+use Rattle.neighbor.specs.declared.Got.the-variants.{Refused as Rejected, Nothing, Is}
+use Rattle.neighbor.specs.declared.Outcome.the-variants.{Refused, Done}
+use Rattle.neighbor.specs.declared.Changed.{Changed}
+use Rattle.neighbor.specs.declared.Removed.{Removed}
+use Rattle.neighbor.specs.Answers.{answerNumber, gotNumber, outcomeNumber, answerOf, listed}
+use Rattle.neighbor.specs.NeighborRules.{Key, isKey, find, insertState, removeKey, clearIface}
+
+-- the entries: the first `len` slots; "A count above its size reads as the size"
+abbrev pub entries : NeighborCache → List Entry
+entries c = take (c .len) (c .slots)
+
+-- the cache with these entries, whose slots past them hold what they held
+abbrev pub withEntries : NeighborCache → List Entry → NeighborCache
+withEntries c xs = record { slots = filled (c .slots) xs; len = length xs }
+
+-- what a slot that was never used holds
+abbrev pub blank : Entry
+blank = record { iface = 0; addr = record { hi = 0; lo = 0 }; state = Started }
+
+abbrev pub empty : NeighborCache
+empty = record { slots = replicate 16 blank; len = 0 }
+
+abbrev pub key : ℕ → Ipv6Addr → Key
+key iface addr = record { iface = iface; addr = addr }
+
+-- "Number 2 belongs to lookup, start, fill and insert"
+abbrev pub keyCheck : ℕ → Ipv6Addr → Check
+keyCheck iface addr = firstRefusal (noSuchIface iface ∷ notUnicast addr ∷ [])
+
+abbrev pub fillCheck : Instant → ℕ → Ipv6Addr → HardwareAddress → Check
+fillCheck t iface addr hw = firstRefusal (tooLate t ∷ noSuchIface iface ∷ notUnicast addr ∷ notUnicastHardware hw ∷ [])
+
+abbrev pub ifaceCheck : ℕ → Check
+ifaceCheck iface = firstRefusal (noSuchIface iface ∷ [])
+
+-- Lookup
+
+abbrev pub answerIn : Entry → Answer
+answerIn e = answerOf (e .state)
+
+abbrev pub lookupBy : Check → NeighborCache → Key → Answer
+lookupBy (Fails why) c k = Denied why
+lookupBy Fine c k = firstOf (isKey k) answerIn NotFound (entries c)
+
+pub record LookedUp (c : NeighborCache) (iface : ℕ) (addr : Ipv6Addr) (r : Answer) : Type 0 where
+  pub is : r ≡ lookupBy (keyCheck iface addr) c (key iface addr)
+  pub number : answerNumber r ≡ checkNumber (keyCheck iface addr)
+
+-- Calls that change the entries: "A refusal returns its number and changes nothing."
+
+abbrev pub changeBy : Check → NeighborCache → List Entry → Changed
+changeBy (Fails why) c xs = record { cache = c; outcome = Refused why }
+changeBy Fine c xs = record { cache = withEntries c xs; outcome = Done }
+
+pub record ChangedTo (check : Check) (c : NeighborCache) (xs : List Entry) (r : Changed) : Type 0 where
+  pub is : r ≡ changeBy check c xs
+  pub number : outcomeNumber (r .outcome) ≡ checkNumber check
+
+-- "Start puts Started, over an entry of that key too."
+abbrev pub startTo : NeighborCache → ℕ → Ipv6Addr → Changed → Type 0
+startTo c iface addr r = ChangedTo (keyCheck iface addr) c (insertState (key iface addr) Started (entries c)) r
+
+-- "insert takes an expiry"
+abbrev pub insertTo : NeighborCache → ℕ → Ipv6Addr → HardwareAddress → Instant → Changed → Type 0
+insertTo c iface addr hw expires r =
+    ChangedTo (fillCheck expires iface addr hw) c (insertState (key iface addr) (Reachable hw expires) (entries c)) r
+
+-- "Fill puts Reachable for 60,000 ms"
+abbrev pub fillTo : NeighborCache → ℕ → Ipv6Addr → HardwareAddress → Instant → Changed → Type 0
+fillTo c iface addr hw now r =
+    ChangedTo (fillCheck now iface addr hw) c (insertState (key iface addr) (Reachable hw (addOf now (record { 0 = 60000 }))) (entries c)) r
+
+-- "clearing an interface keeps order"
+abbrev pub clearTo : NeighborCache → ℕ → Changed → Type 0
+clearTo c iface r = ChangedTo (ifaceCheck iface) c (clearIface iface (entries c)) r
+
+-- Get, listing and remove: "removing or listing an absent key answers Nothing"
+
+abbrev pub shown : Entry → Got
+shown e = Is (listed e)
+
+abbrev pub getBy : Check → NeighborCache → Key → Got
+getBy (Fails why) c k = Rejected why
+getBy Fine c k = firstOf (isKey k) shown Nothing (entries c)
+
+pub record GotBy (c : NeighborCache) (iface : ℕ) (addr : Ipv6Addr) (r : Got) : Type 0 where
+  pub is : r ≡ getBy (ifaceCheck iface) c (key iface addr)
+  pub number : gotNumber r ≡ checkNumber (ifaceCheck iface)
+
+-- the entry at an index, for a listing
+abbrev pub atIndex : NeighborCache → ℕ → Got
+atIndex c i = cond (ltb i (length (entries c))) (shown (getD (entries c) i blank)) Nothing
+
+abbrev pub removeBy : Check → NeighborCache → Key → Removed
+removeBy (Fails why) c k = record { cache = c; taken = Rejected why }
+removeBy Fine c k =
+    cond (ltb (find k (entries c)) (length (entries c)))
+    (record { cache = withEntries c (removeKey k (entries c)); taken = shown (getD (entries c) (find k (entries c)) blank) })
+    (record { cache = c; taken = Nothing })
+
+pub record RemovedTo (c : NeighborCache) (iface : ℕ) (addr : Ipv6Addr) (r : Removed) : Type 0 where
+  pub is : r ≡ removeBy (ifaceCheck iface) c (key iface addr)
+  pub number : gotNumber (r .taken) ≡ checkNumber (ifaceCheck iface)

@@ -1,0 +1,2 @@
+pub mod SweepRules
+pub mod SweepCalls
