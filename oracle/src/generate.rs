@@ -1,1 +1,901 @@
+//! Event files by chance, aimed at the rules: the model runs along, so that times can be put next to the deadlines that
+//! its tables hold.
 
+use model::script::{Event, apply};
+use model::{Addr, LATEST, Mac, Model, Phase, State};
+
+/// Splitmix64.
+pub struct Rng(u64);
+
+impl Rng {
+    pub fn new(seed: u64, number: u64) -> Rng {
+        let mut rng = Rng(seed.wrapping_mul(0x9e37_79b9_7f4a_7c15) ^ number.wrapping_mul(0xd134_2543_de82_ef95));
+        rng.next();
+        rng
+    }
+
+    pub fn next(&mut self) -> u64 {
+        self.0 = self.0.wrapping_add(0x9e37_79b9_7f4a_7c15);
+        let mut z = self.0;
+        z = (z ^ z >> 30).wrapping_mul(0xbf58_476d_1ce4_e5b9);
+        z = (z ^ z >> 27).wrapping_mul(0x94d0_49bb_1331_11eb);
+        z ^ z >> 31
+    }
+
+    /// 0 up to `n`, without `n`.
+    pub fn below(&mut self, n: u64) -> u64 {
+        self.next() % n
+    }
+
+    /// One time in `n`.
+    pub fn one_in(&mut self, n: u64) -> bool {
+        self.below(n) == 0
+    }
+
+    pub fn of<T: Copy>(&mut self, items: &[T]) -> T {
+        items[self.below(items.len() as u64) as usize]
+    }
+}
+
+/// Which events a file is made of: (weight, event).
+#[derive(Clone, Copy)]
+enum Kind {
+    Up,
+    Down,
+    Poll,
+    Ra,
+    Start,
+    Sweep,
+    Fill,
+    Remove,
+    Off,
+}
+
+const ADVERTISED: &[(u64, Kind)] = &[
+    (6, Kind::Up),
+    (2, Kind::Down),
+    (40, Kind::Poll),
+    (40, Kind::Ra),
+    (3, Kind::Start),
+    (4, Kind::Sweep),
+    (3, Kind::Fill),
+    (1, Kind::Remove),
+    (1, Kind::Off),
+];
+const RESOLVED: &[(u64, Kind)] = &[
+    (25, Kind::Start),
+    (50, Kind::Sweep),
+    (10, Kind::Fill),
+    (6, Kind::Remove),
+    (1, Kind::Ra),
+    (1, Kind::Poll),
+];
+const CROWDED: &[(u64, Kind)] = &[
+    (45, Kind::Start),
+    (14, Kind::Sweep),
+    (35, Kind::Fill),
+    (3, Kind::Remove),
+    (3, Kind::Ra),
+];
+const MIXED: &[(u64, Kind)] = &[
+    (4, Kind::Up),
+    (2, Kind::Down),
+    (20, Kind::Poll),
+    (20, Kind::Ra),
+    (15, Kind::Start),
+    (20, Kind::Sweep),
+    (15, Kind::Fill),
+    (5, Kind::Remove),
+    (2, Kind::Off),
+];
+
+pub struct File {
+    mac: Mac,
+    addresses: Vec<(Addr, u64)>,
+    events: Vec<(u64, Event)>,
+}
+
+impl File {
+    pub fn text(&self) -> String {
+        let mut s = format!("mac {:012x}\naddresses {}\n", self.mac, self.addresses.len());
+        for (addr, len) in &self.addresses {
+            s += &format!("{addr:032x} {len}\n");
+        }
+        s += &format!("events {}\n", self.events.len());
+        for (time, event) in &self.events {
+            s += &format!("{time} {}\n", event.line());
+        }
+        s
+    }
+}
+
+struct Maker {
+    rng: Rng,
+    /// Also what the Rust can not be compared on: long lifetimes, times far apart, all of fe80::/10.
+    wide: bool,
+    model: Model,
+    file: File,
+    /// All times lie at or after this one, and before `end` with what is added to them.
+    base: u64,
+    end: u64,
+    now: u64,
+    routers: Vec<Addr>,
+    prefixes: Vec<Addr>,
+    neighbours: Vec<Addr>,
+    macs: Vec<Mac>,
+    /// Of the routers, prefixes and neighbours only the first few are used.
+    few: u64,
+    /// How often an advertisement is malformed: one in this.
+    malformed: u64,
+}
+
+const LINK_LOCAL: Addr = 0xfe80 << 112;
+
+/// The `number`th file of a seed. With `wide` it may leave the range in which the Rust can be compared.
+pub fn file(seed: u64, number: u64, wide: bool) -> Vec<u8> {
+    let mut maker = Maker::new(Rng::new(seed, number), wide);
+    let style = maker.rng.below(16);
+    match style {
+        0..=4 => maker.mingle(ADVERTISED, 40),
+        5..=6 => maker.mingle(RESOLVED, 60),
+        7..=8 => maker.crowd(),
+        9..=11 => maker.mingle(MIXED, 60),
+        12 => {
+            maker.malformed = 2;
+            maker.mingle(ADVERTISED, 25)
+        }
+        13 => maker.probe_out(),
+        14 => maker.twins(),
+        _ => {
+            maker.mingle(MIXED, 12);
+            let text = maker.file.text();
+            return damage(&mut maker.rng, text);
+        }
+    }
+    let mut text = maker.file.text().into_bytes();
+    if maker.rng.one_in(20) {
+        text.pop();
+    }
+    text
+}
+
+impl Maker {
+    fn new(mut rng: Rng, wide: bool) -> Maker {
+        let mut mac = match rng.below(4) {
+            0 => 0x0200_0000_0001,
+            1 => 0x0000_5e00_5301,
+            _ => rng.next() & 0xfeff_ffff_ffff,
+        };
+        if rng.one_in(12) {
+            mac |= 1 << 40;
+        }
+        let base = match rng.below(14) {
+            0 => rng.below(1 << 31),
+            1 => (1 << 31) - rng.below(20_000),
+            2 => (1 << 32) - rng.below(20_000),
+            3 => rng.next() >> 3,
+            4 => LATEST - rng.below(20_000),
+            5 => LATEST - rng.below(3),
+            _ => 0,
+        };
+        let end = if wide { u64::MAX } else { base + (1 << 31) };
+
+        let own = LINK_LOCAL | u128::from(model::eui64(mac));
+        let mut routers: Vec<Addr> = (1..=3).map(|i| LINK_LOCAL | i).collect();
+        routers.push(LINK_LOCAL | u128::from(rng.next()));
+        routers.push(own);
+        // The host checks the source: all of fe80::/10 counts, for the Rust as well.
+        routers.push(0xfebf << 112 | 7);
+        let site: Addr = 0x2001_0db8 << 96;
+        let mut prefixes = vec![
+            site | 1 << 64,
+            site | 1 << 64 | 1,
+            site | 2 << 64,
+            site | 1 << 64 | u128::from(u64::MAX),
+            site | 3 << 64,
+            site | 4 << 64,
+            0xfd00 << 112 | 5 << 64,
+            0,
+            site | 6 << 64,
+        ];
+        // Some files swap what comes first.
+        for i in 0..prefixes.len() {
+            if rng.one_in(3) {
+                let j = rng.below(prefixes.len() as u64) as usize;
+                prefixes.swap(i, j);
+            }
+        }
+        let mut neighbours: Vec<Addr> = routers[..3].to_vec();
+        for i in 0..20u128 {
+            neighbours.push(site | 1 << 64 | 0x100 + i);
+        }
+        let macs = vec![
+            0x0200_0000_00aa,
+            0x0200_0000_00bb,
+            0x0000_5e00_5355,
+            rng.next() & 0xfeff_ffff_ffff,
+        ];
+        let few = rng.of(&[1, 2, 3, 5, 30]);
+        let malformed = rng.of(&[8, 20, 1000]);
+
+        let mut maker = Maker {
+            rng,
+            wide,
+            model: Model::new(mac),
+            file: File {
+                mac,
+                addresses: Vec::new(),
+                events: Vec::new(),
+            },
+            base,
+            end,
+            now: base,
+            routers,
+            prefixes,
+            neighbours,
+            macs,
+            few,
+            malformed,
+        };
+        maker.addresses(own);
+        maker
+    }
+
+    /// Some addresses of the application.
+    fn addresses(&mut self, own: Addr) {
+        let count = match self.rng.below(10) {
+            0 => 0,
+            1 => self.rng.below(9),
+            2 => 5 + self.rng.below(4),
+            _ => 1 + self.rng.below(3),
+        };
+        let formed = |p: Addr, mac: Mac| p >> 64 << 64 | u128::from(model::eui64(mac));
+        for i in 0..count {
+            let prefix = self.rng.of(&self.prefixes);
+            let addr = match self.rng.below(if i == 0 { 4 } else { 12 }) {
+                0..=2 => own,
+                3 => LINK_LOCAL | u128::from(self.rng.below(5)),
+                4..=6 => formed(prefix, self.file.mac),
+                7 => 0x2001_0db8 << 96 | u128::from(self.rng.next()),
+                8 if self.rng.one_in(2) => 0,
+                8 => 0xff02 << 112 | 1,
+                9 if self.wide => 0xfe80 << 112 | u128::from(self.rng.next()) << 54 | 9,
+                _ => 0x2001_0db8 << 96 | 9 << 64 | u128::from(self.rng.below(20)),
+            };
+            let len = match self.rng.below(8) {
+                0 => 128,
+                1 => self.rng.below(129),
+                2 => 48,
+                _ => 64,
+            };
+            if let model::Answer::Done(()) = self.model.add_address(0, addr, len) {
+                self.file.addresses.push((addr, len));
+            }
+        }
+    }
+
+    /// The times that the tables hold.
+    fn deadlines(&self) -> Vec<u64> {
+        let mut times = Vec::new();
+        if let Some(s) = &self.model.ifaces[0].slaac {
+            for p in &s.prefixes {
+                times.push(p.valid);
+                times.push(p.preferred);
+            }
+            times.extend(s.routers.iter().map(|r| r.until));
+            if let Phase::Discovering { retry } = s.phase {
+                times.push(retry);
+            }
+        }
+        for n in &self.model.neighbours {
+            match n.state {
+                State::Incomplete { due, .. } => times.push(due),
+                State::Reachable { until, .. } => times.push(until),
+                _ => {}
+            }
+        }
+        times
+    }
+
+    /// The time of the next event.
+    fn time(&mut self, kind: Kind) -> u64 {
+        if self.rng.one_in(60) {
+            // Above the latest; some kinds do not mind.
+            return match self.rng.below(4) {
+                0 => LATEST + 1,
+                1 => u64::MAX,
+                _ => LATEST + 1 + self.rng.below(u64::MAX - LATEST - 1),
+            };
+        }
+        let mut t = self.now;
+        match self.rng.below(12) {
+            0..=2 => {}
+            3 => t += self.rng.below(3),
+            4 => t += self.rng.below(5_000),
+            5 => t += self.rng.of(&[999, 1_000, 1_001, 3_999, 4_000, 4_001, 59_999, 60_000]),
+            6 if self.rng.one_in(3) => t = t.saturating_sub(self.rng.below(10_000)),
+            7 if self.rng.one_in(6) => t += self.rng.below(4_000_000),
+            _ => {
+                // Next to a deadline: more often a near one.
+                let mut times = self.deadlines();
+                times.retain(|d| *d + 1 >= self.now);
+                times.sort();
+                if !times.is_empty() {
+                    let near = times.len().min(3) as u64;
+                    let i = if self.rng.one_in(3) {
+                        self.rng.below(times.len() as u64)
+                    } else {
+                        self.rng.below(near)
+                    };
+                    t = (times[i as usize] + self.rng.below(3)).saturating_sub(1);
+                }
+            }
+        }
+        if matches!(kind, Kind::Poll | Kind::Sweep) && self.rng.one_in(40) && LATEST - self.base < 1 << 30 {
+            t = LATEST;
+        }
+        t = t.max(self.base);
+        // Room for what the calls add.
+        if t > LATEST || t + 70_000_000 >= self.end {
+            t = self.now;
+        }
+        self.now = t;
+        t
+    }
+
+    fn router(&mut self) -> Addr {
+        let n = self.few.min(self.routers.len() as u64);
+        let i = self.rng.below(n);
+        match self.rng.below(60) {
+            0 => 0x2001_0db8 << 96 | 1,
+            1 => 0xfec0 << 112 | 1,
+            2 => 0xff02 << 112 | 1,
+            3 => 0,
+            4 => self.rng.of(&self.routers),
+            _ => self.routers[i as usize],
+        }
+    }
+
+    fn neighbour(&mut self) -> Addr {
+        if self.rng.one_in(40) {
+            return self.rng.of(&[0, 0xff02 << 112 | 1, 0xff << 120, 1, 0xfeff << 112 | 3]);
+        }
+        let n = self.few.min(self.neighbours.len() as u64);
+        let i = self.rng.below(n);
+        self.neighbours[i as usize]
+    }
+
+    fn hardware(&mut self) -> Mac {
+        match self.rng.below(20) {
+            0 => 0xffff_ffff_ffff,
+            1 => 0x3333_0000_0001,
+            2 => self.rng.next() >> 16,
+            3 => 0,
+            _ => self.rng.of(&self.macs),
+        }
+    }
+
+    /// A lifetime in seconds that stays in the range.
+    fn seconds(&mut self) -> u64 {
+        let room = (self.end - self.now.min(self.end)) / 1000;
+        let longest = if self.wide {
+            u64::from(u32::MAX)
+        } else {
+            crate::events::LONGEST.min(room.saturating_sub(1))
+        };
+        let s = match self.rng.below(16) {
+            0..=1 => 0,
+            2..=3 => 1,
+            4..=8 => 1 + self.rng.below(10),
+            9..=10 => 1_800,
+            11 => 7_200,
+            12 => self.rng.below(100_000),
+            13 => longest,
+            14 => self.rng.below(longest + 1),
+            _ => 2 + self.rng.below(3),
+        };
+        s.min(longest)
+    }
+
+    fn prefix_option(&mut self) -> Vec<u8> {
+        let n = self.few.max(2).min(self.prefixes.len() as u64);
+        let mut prefix = self.prefixes[self.rng.below(n) as usize];
+        if self.rng.one_in(15) {
+            prefix = self.rng.of(&[
+                LINK_LOCAL,
+                LINK_LOCAL | 1 << 8,
+                0xff02 << 112,
+                0xff << 120,
+                0xfe << 120,
+                0xfec0 << 112,
+                0xfe7f << 112,
+            ]);
+            if self.wide && self.rng.one_in(2) {
+                prefix = 0xfe80 << 112 | u128::from(self.rng.next()) << 54;
+            }
+        }
+        let len = match self.rng.below(20) {
+            0 => 128,
+            1 => 129,
+            2 => self.rng.of(&[0, 1, 48, 63, 65, 127, 255]),
+            3 => self.rng.below(256) as u8,
+            _ => 64,
+        };
+        let flags = match self.rng.below(12) {
+            0 => 0x80,
+            1 => 0x40,
+            2 => self.rng.below(256) as u8,
+            _ => 0xc0,
+        };
+        let valid = self.seconds();
+        let preferred = match self.rng.below(10) {
+            0 => valid + 1,
+            1 => self.seconds(),
+            2..=3 => 0,
+            4..=6 => valid,
+            _ => self.rng.below(valid + 1),
+        };
+        // A prefix that is known and ends now.
+        let (valid, preferred) = if self.rng.one_in(8) { (0, self.rng.below(20) / 18) } else { (valid, preferred) };
+        let units = if self.rng.one_in(25) { 5 + self.rng.below(3) } else { 4 } as usize;
+        let mut option = vec![0; 8 * units];
+        option[0] = 3;
+        option[1] = units as u8;
+        option[2] = len;
+        option[3] = flags;
+        option[4..8].copy_from_slice(&(valid as u32).to_be_bytes());
+        option[8..12].copy_from_slice(&(preferred.min(u64::from(u32::MAX)) as u32).to_be_bytes());
+        if self.rng.one_in(5) {
+            option[12..16].copy_from_slice(&(self.rng.next() as u32).to_be_bytes());
+        }
+        option[16..32].copy_from_slice(&prefix.to_be_bytes());
+        option
+    }
+
+    /// Any option that is well formed.
+    fn option(&mut self) -> Vec<u8> {
+        match self.rng.below(20) {
+            0..=12 => self.prefix_option(),
+            13..=16 => {
+                let units = if self.rng.one_in(5) { 2 + self.rng.below(3) } else { 1 } as usize;
+                let mut option = vec![0; 8 * units];
+                option[0] = if self.rng.one_in(6) { 2 } else { 1 };
+                option[1] = units as u8;
+                let mac = self.hardware();
+                option[2..8].copy_from_slice(&mac.to_be_bytes()[2..]);
+                for b in &mut option[8..] {
+                    *b = self.rng.next() as u8;
+                }
+                option
+            }
+            17 => {
+                let mut option = vec![0; 48 + 8 * self.rng.below(3) as usize];
+                option[0] = 4;
+                option[1] = (option.len() / 8) as u8;
+                option
+            }
+            18 => {
+                let mut option = vec![5, 1, 0, 0, 0, 0, 5, 0xdc];
+                option[7] = self.rng.next() as u8;
+                option
+            }
+            _ => {
+                let units = if self.rng.one_in(10) { 200 } else { 1 + self.rng.below(6) };
+                let mut option = vec![0; 8 * units as usize];
+                option[0] = self.rng.of(&[0, 6, 24, 25, 255]);
+                option[1] = units as u8;
+                option
+            }
+        }
+    }
+
+    fn advertisement(&mut self) -> Vec<u8> {
+        let mut message = vec![0; 16];
+        message[0] = 134;
+        let random = self.rng.next().to_be_bytes();
+        if self.rng.one_in(2) {
+            message[8..16].copy_from_slice(&random);
+            message[2..4].copy_from_slice(&random[..2]);
+            message[4] = 64;
+        }
+        message[5] = self.rng.of(&[0, 0, 0x40, 0x80, 0xc0, 0x3f, 0xff]);
+        let lifetime = match self.rng.below(10) {
+            0..=1 => 0,
+            2 => 1_800,
+            3 => self.rng.of(&[65_535, 65_535, 32_768, 256]),
+            4 => self.rng.below(65_536),
+            _ => 1 + self.rng.below(8),
+        };
+        message[6..8].copy_from_slice(&(lifetime as u16).to_be_bytes());
+        let options = match self.rng.below(8) {
+            0 => 0,
+            1..=3 => 1,
+            4..=5 => 2,
+            6 => 3,
+            _ => 2 + self.rng.below(8),
+        };
+        for _ in 0..options {
+            let option = self.option();
+            if message.len() + option.len() < 1_900 {
+                message.extend(option);
+            }
+        }
+        if self.rng.one_in(self.malformed) {
+            self.spoil(&mut message);
+        }
+        message
+    }
+
+    /// One reason to refuse a message.
+    fn spoil(&mut self, message: &mut Vec<u8>) {
+        match self.rng.below(12) {
+            0 => message[0] = self.rng.of(&[133, 135, 0, 128]),
+            1 => message[1] = 1 + self.rng.below(255) as u8,
+            2 => message.truncate(1 + self.rng.below(15) as usize),
+            3 => message.truncate(15),
+            4..=5 => {
+                // Cut somewhere in the options.
+                let cut = 16 + self.rng.below(message.len() as u64 - 15) as usize;
+                message.truncate(cut);
+            }
+            _ => {
+                // A malformed option at any place between the others.
+                let bad: Vec<u8> = match self.rng.below(6) {
+                    0 => vec![1; 1 + self.rng.below(7) as usize],
+                    1 => vec![self.rng.of(&[1, 3, 5, 9]), 0, 0, 0, 0, 0, 0, 0],
+                    2 => {
+                        let mut o = self.prefix_option();
+                        o.truncate(24);
+                        o[1] = 1 + self.rng.below(3) as u8;
+                        o
+                    }
+                    3 => {
+                        let mut o = vec![0; 8 * (1 + self.rng.below(5)) as usize];
+                        o[0] = 4;
+                        o[1] = (o.len() / 8) as u8;
+                        o
+                    }
+                    4 => {
+                        let mut o = vec![0; 8 * (1 + self.rng.below(4)) as usize];
+                        o[0] = self.rng.of(&[1, 2, 3, 4, 5, 77]);
+                        o[1] = (o.len() / 8 + 1) as u8;
+                        message.extend(o);
+                        return;
+                    }
+                    _ => vec![self.rng.next() as u8; 8],
+                };
+                let mut places = vec![16];
+                let mut at = 16;
+                while let Some((_, option)) = model::option_at(&message[at..]) {
+                    at += option.len();
+                    places.push(at);
+                }
+                let place = self.rng.of(&places).min(message.len());
+                message.splice(place..place, bad);
+            }
+        }
+        if message.len() > 1_990 {
+            message.truncate(1_990);
+        }
+    }
+
+    fn event(&mut self, kind: Kind) -> Event {
+        match kind {
+            Kind::Up => Event::Up,
+            Kind::Down => Event::Down,
+            Kind::Poll => Event::Poll,
+            Kind::Ra => {
+                let source = self.router();
+                Event::Ra(source, self.advertisement())
+            }
+            Kind::Start => Event::Start(self.neighbour()),
+            Kind::Sweep => Event::Sweep,
+            Kind::Fill => {
+                let addr = self.neighbour();
+                Event::Fill(addr, self.hardware())
+            }
+            Kind::Remove => Event::Remove(self.neighbour()),
+            Kind::Off => Event::Off,
+        }
+    }
+
+    fn put(&mut self, time: u64, event: Event) {
+        let mut out = String::new();
+        apply(&mut self.model, time, &event, &mut out);
+        self.file.events.push((time, event));
+    }
+
+    fn step(&mut self, kind: Kind) {
+        let time = self.time(kind);
+        let event = self.event(kind);
+        self.put(time, event);
+    }
+
+    fn mingle(&mut self, kinds: &[(u64, Kind)], most: u64) {
+        let total: u64 = kinds.iter().map(|(w, _)| w).sum();
+        if self.rng.one_in(2) {
+            self.put(self.base, Event::Up);
+        }
+        let count = self.rng.below(most);
+        for _ in 0..count {
+            let mut pick = self.rng.below(total);
+            for (weight, kind) in kinds {
+                if pick < *weight {
+                    self.step(*kind);
+                    break;
+                }
+                pick -= weight;
+            }
+        }
+        if self.rng.one_in(3) {
+            self.step(Kind::Poll);
+        }
+    }
+
+    /// A cache around full, of entries of few or many kinds.
+    fn crowd(&mut self) {
+        self.few = 30;
+        let stock = 13 + self.rng.below(6);
+        let kinds = self.rng.below(6);
+        let mut order: Vec<Addr> = self.neighbours.clone();
+        for i in 0..order.len() {
+            let j = self.rng.below(order.len() as u64) as usize;
+            order.swap(i, j);
+        }
+        for i in 0..stock {
+            let addr = order[i as usize];
+            let fill = match kinds {
+                0 => false,
+                1 => true,
+                2 => self.rng.one_in(8),
+                _ => self.rng.one_in(2),
+            };
+            if self.rng.one_in(3) {
+                self.now += self.rng.below(3);
+            }
+            if fill {
+                let mac = self.rng.of(&self.macs);
+                self.put(self.now.min(LATEST), Event::Fill(addr, mac));
+            } else {
+                self.put(self.now, Event::Start(addr));
+            }
+            if self.rng.one_in(8) {
+                self.put(self.now.min(LATEST), Event::Sweep);
+            }
+        }
+        if kinds == 1 && self.rng.one_in(2) {
+            self.now += 60_000 + self.rng.below(3);
+            self.put(self.now.min(LATEST), Event::Sweep);
+        }
+        self.now = self.now.min(LATEST);
+        self.mingle(CROWDED, 30);
+    }
+
+    /// Resolutions that run to their end.
+    fn probe_out(&mut self) {
+        let n = 1 + self.rng.below(7);
+        for i in 0..n {
+            let addr = self.neighbours[i as usize];
+            self.put(self.now, Event::Start(addr));
+            if self.rng.one_in(3) {
+                let t = self.time(Kind::Sweep);
+                self.put(t, Event::Sweep);
+            }
+        }
+        self.few = n + 1;
+        for _ in 0..4 + self.rng.below(16) {
+            let due = self.model.neighbours.iter().filter_map(|n| match n.state {
+                State::Incomplete { due, .. } => Some(due),
+                _ => None,
+            });
+            let times: Vec<u64> = due.collect();
+            let mut t = if times.is_empty() { self.now } else { self.rng.of(&times) };
+            t = match self.rng.below(6) {
+                0 => t.saturating_sub(1),
+                1 => t + 1,
+                2 => t + self.rng.below(2_000),
+                _ => t,
+            };
+            t = t.max(self.base).min(LATEST);
+            self.now = t;
+            self.put(t, Event::Sweep);
+            if self.rng.one_in(6) {
+                let kind = self.rng.of(&[Kind::Start, Kind::Fill, Kind::Remove]);
+                self.step(kind);
+            }
+        }
+    }
+
+    /// Prefixes of one address, in both orders, with short lifetimes.
+    fn twins(&mut self) {
+        self.put(self.base, Event::Up);
+        let site: Addr = 0x2001_0db8 << 96;
+        self.prefixes = vec![site | 1 << 64, site | 1 << 64 | 1, site | 2 << 64, site | 1 << 64 | 2];
+        self.few = 2 + self.rng.below(3);
+        for _ in 0..2 + self.rng.below(20) {
+            if self.rng.one_in(2) {
+                self.step(Kind::Ra);
+            } else {
+                self.step(Kind::Poll);
+            }
+        }
+    }
+}
+
+/// A file with one thing wrong, or odd, in its format.
+fn damage(rng: &mut Rng, text: String) -> Vec<u8> {
+    let mut lines: Vec<String> = text.lines().map(|l| l.to_string()).collect();
+    let at = rng.below(lines.len() as u64) as usize;
+    let count_line = |lines: &[String], word: &str| lines.iter().position(|l| l.starts_with(word)).unwrap();
+    match rng.below(30) {
+        0 => return Vec::new(),
+        1 => lines.insert(at, String::new()),
+        2 => lines.push(String::new()),
+        3 => lines[at].push('\r'),
+        4 => lines.iter_mut().for_each(|l| l.push('\r')),
+        5 => lines[at] = lines[at].replacen(' ', "  ", 1),
+        6 => lines[at].insert(0, ' '),
+        7 => lines[at].push(' '),
+        8 => {
+            lines.remove(at);
+        }
+        9 => {
+            let again = lines[at].clone();
+            lines.insert(at, again);
+        }
+        10 => lines.push("0 poll".into()),
+        11 => {
+            let i = count_line(&lines, "events");
+            let n = rng.of(&[0, 1, 2, 3, 1000, u64::MAX]);
+            lines[i] = format!("events {n}");
+        }
+        12 => {
+            let word = if rng.one_in(2) { "events" } else { "addresses" };
+            let i = count_line(&lines, word);
+            lines[i] = format!("{word} {}", rng.of(&["18446744073709551616", "99999999999999999999999", "-1", "+1", "x", "0x1", ""]));
+        }
+        13 => {
+            let i = count_line(&lines, "addresses");
+            lines[i] = format!("addresses {}", rng.of(&[0, 1, 2, 9, 10, u64::MAX]));
+        }
+        14 => {
+            // Nine addresses, or eight and one of them again.
+            let i = count_line(&lines, "addresses");
+            let j = count_line(&lines, "events");
+            let n = 9 + rng.below(2);
+            let mut new: Vec<String> = (0..n).map(|k| format!("{:032x} 64", (0x2001_0db8u128 << 96) | u128::from(k))).collect();
+            if rng.one_in(2) {
+                new[8] = new[rng.below(8) as usize].clone();
+            }
+            new.insert(0, format!("addresses {n}"));
+            lines.splice(i..j, new);
+        }
+        15 => {
+            // An address of the application that number 14 or 9 refuses, or an odd one.
+            let i = count_line(&lines, "addresses");
+            let j = count_line(&lines, "events");
+            let mut new = vec![format!("{:032x} 64", 0xfe80u128 << 112 | 1)];
+            new.push(match rng.below(8) {
+                0 => new[0].clone(),
+                1 => format!("{:032x} 129", 0xfe80u128 << 112 | 2),
+                2 => format!("{:032x} 18446744073709551616", 0xfe80u128 << 112 | 2),
+                3 => format!("{:032x}", 0xfe80u128 << 112 | 2),
+                4 => format!("{:032x} 64 static", 0xfe80u128 << 112 | 2),
+                5 => format!("{:031x} 64", 0xfe80u128 << 108 | 2),
+                6 => format!("{:032x} 0128", 0xfe80u128 << 112 | 2),
+                _ => format!("{:032x} 63", 0xfe80u128 << 112 | 1),
+            });
+            new.insert(0, format!("addresses {}", new.len()));
+            lines.splice(i..j, new);
+        }
+        16 => lines[at] = lines[at].to_uppercase(),
+        17 => {
+            // Upper case where it is allowed.
+            for l in lines.iter_mut() {
+                let words: Vec<String> = l
+                    .split(' ')
+                    .map(|w| if w.len() >= 12 { w.to_uppercase() } else { w.to_string() })
+                    .collect();
+                *l = words.join(" ");
+            }
+        }
+        18 => {
+            lines[at].pop();
+        }
+        19 => lines[at].push(rng.of(&['0', 'a', 'g', '\t', '-', '\u{e9}', '\0'])),
+        20 => {
+            let i = count_line(&lines, "events");
+            let line = rng.of(&[
+                "0",
+                "0 ",
+                "0 nothing",
+                "x poll",
+                "-1 poll",
+                "18446744073709551616 poll",
+                "18446744073709551615 up",
+                "0 poll 1",
+                "0 up up",
+                "0 ra",
+                "0 ra fe800000000000000000000000000001",
+                "0 ra fe800000000000000000000000000001 8",
+                "0 ra fe800000000000000000000000000001 86 00",
+                "0 ra fe80000000000000000000000000001 86",
+                "0 start",
+                "0 start 1",
+                "0 start fe800000000000000000000000000001 1",
+                "0 fill fe800000000000000000000000000001",
+                "0 fill fe800000000000000000000000000001 02000000000",
+                "0 fill fe800000000000000000000000000001 0200000000010",
+                "0 remove",
+                "0 off 1",
+                "0 sweep 0",
+                "0 down 0",
+                "poll",
+                "0 POLL",
+                "0\tpoll",
+                "00000000000000000000000000000000000000000000007 up",
+                "0 ra fe800000000000000000000000000001 zz",
+                "0 start fe80000000000000000000000000000g",
+            ]);
+            lines[i] = format!("events {}", lines.len() - i);
+            lines.push(line.into());
+        }
+        21..=23 => {
+            // A long line, by leading zeros.
+            let i = count_line(&lines, "events");
+            let length = rng.of(&[4_095, 4_096, 4_097, 5_000]);
+            let line = format!("{}7 poll", "0".repeat(length - 6));
+            lines[i] = format!("events {}", lines.len() - i);
+            lines.push(line);
+        }
+        24 => {
+            // A long line, by its message.
+            let i = count_line(&lines, "events");
+            let length = rng.of(&[4_094, 4_096, 4_098]);
+            let head = format!("{} ra {:032x} ", rng.of(&["7", "77"]), 0xfe80u128 << 112 | 1);
+            let digits = length - head.len();
+            let mut message = "86000000000007080000000000000000".to_string();
+            while message.len() + 16 <= digits {
+                message += "0501000000000500";
+            }
+            while message.len() + 2 <= digits {
+                message += "00";
+            }
+            lines[i] = format!("events {}", lines.len() - i);
+            lines.push(head + &message);
+        }
+        25 => {
+            let mut bytes = (lines.join("\n") + "\n").into_bytes();
+            let i = rng.below(bytes.len() as u64) as usize;
+            bytes[i] = rng.next() as u8;
+            return bytes;
+        }
+        26 => {
+            let mut bytes = (lines.join("\n") + "\n").into_bytes();
+            bytes.truncate(rng.below(bytes.len() as u64) as usize);
+            return bytes;
+        }
+        27 => {
+            let i = rng.of(&[0, 1, count_line(&lines, "events")]);
+            lines[i] = match rng.below(5) {
+                0 => lines[i].split(' ').next().unwrap().to_string(),
+                1 => format!("{} 1", lines[i]),
+                2 => lines[i].replacen(' ', "\t", 1),
+                3 => format!("x{}", lines[i]),
+                _ => lines[i].split(' ').next_back().unwrap().to_string(),
+            };
+        }
+        28 => {
+            for l in lines.iter_mut().filter(|l| l.as_bytes()[0].is_ascii_digit()) {
+                if l.split(' ').next().unwrap().len() < 20 {
+                    l.insert_str(0, "00");
+                }
+            }
+        }
+        _ => {
+            let i = rng.below(lines.len() as u64) as usize;
+            lines.swap(at, i);
+        }
+    }
+    (lines.join("\n") + "\n").into_bytes()
+}

@@ -1,0 +1,258 @@
+//! Runs both sides on generated files and stops at the first difference. See README.md.
+
+use std::fs;
+use std::io::Write;
+use std::path::{Path, PathBuf};
+use std::process::{Command, Stdio, exit};
+use std::time::Instant;
+
+use oracle::{events, generate};
+
+const USAGE: &str = "compare [-n FILES] [-s SEED] [--first N] [--events PROGRAM] [--model] [--wide] [--keep FOLDER] [--all] [FILE..]
+
+  -n FILES          how many files (10000)
+  -s SEED           of the generator (1)
+  --first N         the number of the first file (0)
+  --events PROGRAM  the program on the other side; without it target/bin/events, and the model if that is missing
+  --model           the model on the other side
+  --wide            the model in place of the Rust, on files that the Rust can not be compared on as well
+  --keep FOLDER     where a file that differs is kept (oracle/kept)
+  --all             go on after a difference, keeping each
+  FILE..            compare on these files instead of generated ones";
+
+/// The program on the other side.
+enum Other {
+    Model,
+    Program(PathBuf, PathBuf),
+}
+
+fn usage() -> ! {
+    eprintln!("{USAGE}");
+    exit(2)
+}
+
+impl Other {
+    fn run(&self, input: &[u8]) -> String {
+        match self {
+            Other::Model => model::script::run(input),
+            Other::Program(path, scratch) => {
+                fs::write(scratch, input).unwrap();
+                let run = Command::new(path)
+                    .stdin(fs::File::open(scratch).unwrap())
+                    .stderr(Stdio::inherit())
+                    .output()
+                    .unwrap_or_else(|e| {
+                        eprintln!("{}: {e}", path.display());
+                        exit(2)
+                    });
+                let mut out = String::from_utf8_lossy(&run.stdout).into_owned();
+                if !run.status.success() {
+                    out += &format!("(ended with {})\n", run.status);
+                }
+                out
+            }
+        }
+    }
+}
+
+struct Compare {
+    wide: bool,
+    other: Other,
+    keep: PathBuf,
+}
+
+impl Compare {
+    /// The two outputs, if both sides can be run on it.
+    fn both(&self, input: &[u8]) -> Option<(String, String)> {
+        let left = if self.wide {
+            model::script::run(input)
+        } else {
+            let outcome = events::run(input);
+            if outcome.outside.is_some() {
+                return None;
+            }
+            outcome.output
+        };
+        Some((left, self.other.run(input)))
+    }
+
+    fn differs(&self, input: &[u8]) -> bool {
+        self.both(input).is_some_and(|(l, r)| l != r)
+    }
+
+    /// The file without lines that the difference does not need.
+    fn shrink(&self, input: &[u8]) -> Vec<u8> {
+        let Ok(text) = std::str::from_utf8(input) else {
+            return input.to_vec();
+        };
+        let mut best: Vec<String> = text.lines().map(|l| l.to_string()).collect();
+        let without = |lines: &[String], i: usize| -> Option<Vec<String>> {
+            // The heading above the line counts one fewer.
+            let head = (0..i).rev().find(|h| lines[*h].starts_with("addresses ") || lines[*h].starts_with("events "))?;
+            let (word, n) = lines[head].split_once(' ')?;
+            let n: u64 = n.parse().ok()?;
+            if lines[i].starts_with("events ") {
+                return None;
+            }
+            let mut fewer = lines.to_vec();
+            fewer[head] = format!("{word} {}", n.checked_sub(1)?);
+            fewer.remove(i);
+            Some(fewer)
+        };
+        let joined = |lines: &[String]| (lines.join("\n") + "\n").into_bytes();
+        if !self.differs(&joined(&best)) {
+            return input.to_vec();
+        }
+        loop {
+            let before = best.len();
+            let mut i = best.len();
+            while i > 2 {
+                i -= 1;
+                if let Some(fewer) = without(&best, i)
+                    && self.differs(&joined(&fewer))
+                {
+                    best = fewer;
+                    i = i.min(best.len());
+                }
+            }
+            if best.len() == before {
+                return joined(&best);
+            }
+        }
+    }
+
+    fn report(&self, name: &str, input: &[u8]) {
+        let (left, right) = self.both(input).unwrap();
+        fs::create_dir_all(&self.keep).unwrap();
+        let at = |end: &str| self.keep.join(format!("{name}.{end}"));
+        fs::write(at("in"), input).unwrap();
+        let small = self.shrink(input);
+        let (small_left, small_right) = self.both(&small).unwrap();
+        fs::write(at("small.in"), &small).unwrap();
+        let (l, r) = if self.wide { ("model", "other") } else { ("rust", "other") };
+        fs::write(at(l), &left).unwrap();
+        fs::write(at(r), &right).unwrap();
+        println!("\ndifference: {} (smallest found: {})", at("in").display(), at("small.in").display());
+        println!("{}", String::from_utf8_lossy(&small));
+        show(&small_left, &small_right, l, r);
+    }
+}
+
+/// The lines that differ, with what is equal around them left out.
+fn show(left: &str, right: &str, l: &str, r: &str) {
+    let (a, b): (Vec<&str>, Vec<&str>) = (left.lines().collect(), right.lines().collect());
+    let front = a.iter().zip(&b).take_while(|(x, y)| x == y).count();
+    let back = a[front..]
+        .iter()
+        .rev()
+        .zip(b[front..].iter().rev())
+        .take_while(|(x, y)| x == y)
+        .count();
+    println!("({front} equal lines)");
+    for line in &a[front..a.len() - back] {
+        println!("- {line}    ({l})");
+    }
+    for line in &b[front..b.len() - back] {
+        println!("+ {line}    ({r})");
+    }
+    println!("({back} equal lines)");
+}
+
+fn main() {
+    xarxa::world::quiet_expected_panics();
+    let root = Path::new(env!("CARGO_MANIFEST_DIR")).join("..");
+    let (mut count, mut seed, mut first) = (10_000u64, 1u64, 0u64);
+    let (mut program, mut use_model, mut wide, mut all) = (None, false, false, false);
+    let mut keep = Path::new(env!("CARGO_MANIFEST_DIR")).join("kept");
+    let mut files = Vec::new();
+    let mut args = std::env::args().skip(1);
+    while let Some(arg) = args.next() {
+        let mut value = || args.next().unwrap_or_else(|| usage());
+        let number = |s: String| s.parse().unwrap_or_else(|_| usage());
+        match arg.as_str() {
+            "-n" => count = number(value()),
+            "-s" => seed = number(value()),
+            "--first" => first = number(value()),
+            "--events" => program = Some(PathBuf::from(value())),
+            "--model" => use_model = true,
+            "--wide" => wide = true,
+            "--all" => all = true,
+            "--keep" => keep = PathBuf::from(value()),
+            a if a.starts_with('-') => usage(),
+            a => files.push(PathBuf::from(a)),
+        }
+    }
+    let default = root.join("target/bin/events");
+    let scratch = std::env::temp_dir().join(format!("oracle-compare-{}.in", std::process::id()));
+    let other = match program {
+        _ if use_model => Other::Model,
+        Some(path) => Other::Program(path, scratch.clone()),
+        None if default.is_file() => Other::Program(default, scratch.clone()),
+        None => Other::Model,
+    };
+    let left = if wide { "the model" } else { "the Rust" };
+    match &other {
+        Other::Model if wide => {
+            eprintln!("--wide needs a program to compare the model with");
+            exit(2)
+        }
+        Other::Model => eprintln!("{left} against the model"),
+        Other::Program(path, _) => eprintln!("{left} against {}", path.display()),
+    }
+
+    let compare = Compare { wide, other, keep };
+    let total = if files.is_empty() { count } else { files.len() as u64 };
+    let mut fired = vec![0u64; model::marks::names().len()];
+    let (mut done, mut outside, mut differences, mut bytes) = (0u64, 0u64, 0u64, 0u64);
+    let began = Instant::now();
+    let mut shown = Instant::now();
+    for i in 0..total {
+        let (name, input) = if files.is_empty() {
+            let n = first + i;
+            (format!("{seed}-{n}"), generate::file(seed, n, wide))
+        } else {
+            let path = &files[i as usize];
+            let name = path.file_stem().unwrap().to_string_lossy().into_owned();
+            (name, fs::read(path).unwrap_or_else(|e| panic!("{}: {e}", path.display())))
+        };
+        // The model runs on each file, whatever the other side is: it marks the rules.
+        model::marks::take();
+        model::script::run(&input);
+        for (sum, n) in fired.iter_mut().zip(model::marks::take()) {
+            *sum += u64::from(n);
+        }
+        bytes += input.len() as u64;
+        match compare.both(&input) {
+            None => outside += 1,
+            Some((l, r)) if l == r => done += 1,
+            Some(_) => {
+                differences += 1;
+                compare.report(&name, &input);
+                if !all {
+                    break;
+                }
+            }
+        }
+        if shown.elapsed().as_millis() > 1000 {
+            shown = Instant::now();
+            eprint!("\r{} of {total} files ", i + 1);
+            std::io::stderr().flush().unwrap();
+        }
+    }
+    let _ = fs::remove_file(&scratch);
+    eprint!("\r");
+    let reached = fired.iter().filter(|n| **n > 0).count();
+    println!(
+        "{done} files equal, {differences} differ, {outside} outside what the Rust can be compared on; {bytes} bytes; {:.1} s",
+        began.elapsed().as_secs_f64()
+    );
+    println!("rules reached: {reached} of {}", fired.len());
+    for (name, n) in model::marks::names().iter().zip(&fired) {
+        if *n == 0 {
+            println!("  not reached: {name}");
+        }
+    }
+    if differences > 0 {
+        exit(1)
+    }
+}
