@@ -1,3 +1,5 @@
 pub mod Answers
 pub mod NeighborRules
 pub mod CacheCalls
+pub mod Distinct
+pub mod Eviction
