@@ -2,3 +2,4 @@ pub mod Numbers
 pub mod Rfc4291
 pub mod Rfc2464
 pub mod Refusals
+pub mod RoundTrips
