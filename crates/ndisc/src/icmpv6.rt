@@ -1,0 +1,1 @@
+// The checksum of ICMPv6 (RFC 4443, 2.3).
