@@ -1,0 +1,186 @@
+-- Demand 3 holds. Assumes nothing.
+use Prim.Native.Nat.{ℕ, suc, _+_, _-_, _^_, _≤_, _<_}
+use native.Mathlib.Omega.{arith}
+use mathlib.Core.Path.{_≡_, refl, sym, ap, _∙_, subst}
+use mathlib.Core.Bool.{Bool, true, false, cond, not, _&&_, _||_, true≢false}
+use mathlib.Core.List.{List, [], _∷_, _++_, map, append-assoc}
+use lib.ListN.{length, replicate}
+use lib.Dec.{T, leb, eqb}
+use borrow.Author.Tests.{eq-eqb, ne-eqb, le-leb, lt-leb, leb-true, leb-false}
+use Rattle.table.specs.Table.{kept}
+use Rattle.time.specs.declared.Instant.{Instant}
+use Rattle.wire.specs.declared.error.Check.{Check}
+use Rattle.wire.specs.declared.error.Check.the-variants.{Fine}
+use Rattle.neighbor.specs.declared.State.{State}
+use Rattle.neighbor.specs.declared.State.the-variants.{Started, Incomplete}
+use Rattle.neighbor.specs.NeighborRules.{Table, Key, sameKey, entriesOf}
+use Rattle.sweep.specs.SweepRules.{expireState}
+use Rattle.claims.specs.Calls.{Call, start, sweep, check, Effect, nothing, puts, removes, clears, sweeps, meant, effectBy, effect, does, next, reply, tableAfter}
+use Rattle.claims.specs.Demand3.{After, counting, joined, left, Alone, Sweeping, Demand3}
+use Rattle.claims.specs.Watch.{later, Report, retransmission, failure, reportsIn, Watch, waiting, dueAt, filled, gone, watchOf, watchSweep, told, watchEffect, toldEffect, watchCall, toldBy, watchAll, toldAll, ownsEffect, owns, isSweepEffect, isSweep, putsOtherEffect, evicts, Kept, Distinct}
+use Rattle.claims.proofs.Calls.{InTime, called-in-time, distinct-next, fits-next, others-keep, evicted-only, call-told, trace-told, trace-watch, trace-run}
+use Rattle.claims.proofs.Put.{put-own}
+use Rattle.claims.proofs.Sweep.{sweep-entries, sweep-tells, ample, not-yet}
+use Rattle.claims.proofs.Walk.{visitStates, tellStates}
+
+-- tables that the calls made
+made : (cs : List Call) (t : Table) → Distinct t → length t ≤ 16 → Distinct (tableAfter cs t) × (length (tableAfter cs t) ≤ 16)
+made [] t d h = (d, h)
+made (c ∷ cs) t d h = made cs (next c t) (distinct-next c t d) (fits-next c t h)
+
+empty-distinct : Distinct []
+empty-distinct = record { once = λ k. omega arith }
+
+silent : (k : Key) (c : Call) (t : Table) → isSweep c ≡ false → toldBy k c (watchOf (entriesOf k t)) ≡ []
+silent k c t h = go (effect c) h
+  where
+    go : (v : Effect) → isSweepEffect v ≡ false → toldEffect k v (watchOf (entriesOf k t)) ≡ []
+    go nothing e = refl
+    go (puts j s) e = refl
+    go (removes j) e = refl
+    go (clears i) e = refl
+    go (sweeps i now) e = absurd (true≢false e)
+
+stays : (k : Key) (c : Call) (t : Table) → Distinct t → owns k c ≡ false → isSweep c ≡ false → T (not (evicts k c t)) → After k c t [] (entriesOf k t)
+stays k c t d own sw kept = record { reports = call-told k c t d ∙ silent k c t sw; leaves = others-keep k c t d own sw kept }
+
+-- a call that is taken, by what it means
+acts : (k : Key) (c : Call) (t : Table) (rs : List Report) (ss : List State) → check c ≡ Fine
+    → reportsIn k (reply c t) ≡ rs → entriesOf k (does (meant c) t) ≡ ss → After k c t rs ss
+acts k c t rs ss ok hr hs = record { reports = rw ok hr; leaves = rw ok hs }
+
+-- a sweep that is taken is in time
+punctual : (i : ℕ) (now : Instant) → check (sweep i now) ≡ Fine → now .0 ≤ 2 ^ 62
+punctual i now ok = subst (λ (x : Check). InTime (effectBy x (sweep i now))) ok (called-in-time (sweep i now))
+
+-- a sweep, by the states that k had
+swept-to : (k : Key) (i : ℕ) (now : Instant) (t : Table) (l : List State) (rs : List Report) (ss : List State) → Distinct t → check (sweep i now) ≡ Fine
+    → entriesOf k t ≡ l
+    → tellStates (eqb i (k .iface)) now (map (expireState now) l) ≡ rs
+    → visitStates (eqb i (k .iface)) now (map (expireState now) l) ≡ ss
+    → After k (sweep i now) t rs ss
+swept-to k i now t l rs ss d ok h hr hs =
+    acts k (sweep i now) t rs ss ok (sweep-tells k i now t (d .once k) ∙ rw h hr) (sweep-entries k i now t (d .once k) ∙ rw h hs)
+
+-- the test of a visit: of another interface, or before its time
+test-false : (own late : Bool) → late ≡ false → (own && late) ≡ false
+test-false true late h = h
+test-false false late h = refl
+
+first : (k : Key) (i : ℕ) (now : Instant) (t : Table) → Distinct t → check (sweep i now) ≡ Fine → entriesOf k t ≡ Started ∷ []
+    → After k (sweep i now) t [] (Incomplete 1 (later now 1000) ∷ [])
+first k i now t d ok h =
+    swept-to k i now t (Started ∷ []) [] (Incomplete 1 (later now 1000) ∷ []) d ok h
+    (rw (ample now (punctual i now ok), not-yet (eqb i (k .iface)) now))
+    (rw (ample now (punctual i now ok), not-yet (eqb i (k .iface)) now))
+
+module _ (k : Key) (i : ℕ) (now : Instant) (t : Table) (p : ℕ) (d : Instant) (s : Sweeping k i now t p d) where
+  passed-by : (eqb i (k .iface) && leb (d .0) (now .0)) ≡ false → After k (sweep i now) t [] (Incomplete p d ∷ [])
+  passed-by e = swept-to k i now t _ _ _ (s .distinct) (s .taken) (s .under-way) (rw e) (rw e)
+
+  early : now .0 < d .0 → After k (sweep i now) t [] (Incomplete p d ∷ [])
+  early l = passed-by (test-false (eqb i (k .iface)) _ (lt-leb (d .0) (now .0) l))
+
+  elsewhere : (i ≡ k .iface → ⊥) → After k (sweep i now) t [] (Incomplete p d ∷ [])
+  elsewhere n = passed-by (rw (ne-eqb i (k .iface) n))
+
+module _ (k : Key) (now : Instant) (t : Table) (p : ℕ) (d : Instant) (s : Sweeping k (k .iface) now t p d) (l : d .0 ≤ now .0) where
+  again : p < 3 → After k (sweep (k .iface) now) t (retransmission ∷ []) (Incomplete (p + 1) (later now 1000) ∷ [])
+  again g =
+      swept-to k (k .iface) now t (Incomplete p d ∷ []) (retransmission ∷ []) (Incomplete (p + 1) (later now 1000) ∷ []) (s .distinct) (s .taken) (s .under-way)
+      (rw (eq-eqb (k .iface) (k .iface) refl, le-leb (d .0) (now .0) l, lt-leb 3 p g))
+      (rw (eq-eqb (k .iface) (k .iface) refl, le-leb (d .0) (now .0) l, lt-leb 3 p g, ample now (punctual (k .iface) now (s .taken))))
+
+  third : 3 ≤ p → After k (sweep (k .iface) now) t (failure ∷ []) []
+  third g =
+      swept-to k (k .iface) now t _ _ _ (s .distinct) (s .taken) (s .under-way)
+      (rw (eq-eqb (k .iface) (k .iface) refl, le-leb (d .0) (now .0) l, le-leb 3 p g))
+      (rw (eq-eqb (k .iface) (k .iface) refl, le-leb (d .0) (now .0) l, le-leb 3 p g))
+
+or-false : (a b : Bool) → (a || b) ≡ false → (a ≡ false) × (b ≡ false)
+or-false true b h = absurd (true≢false h)
+or-false false b h = (refl, h)
+
+or-true : (a : Bool) → (a || false) ≡ true → a ≡ true
+or-true true h = refl
+or-true false h = h
+
+-- the calls that do not count for k
+idle : (k : Key) (v : Effect) (w : Watch) → (ownsEffect k v || isSweepEffect v) ≡ false → (watchEffect k v w ≡ w) × (toldEffect k v w ≡ [])
+idle k nothing w h = (refl, refl)
+idle k (puts j s) w h = (rw (or-false (sameKey k j) false h .0), refl)
+idle k (removes j) w h = (rw (or-false (sameKey k j) false h .0), refl)
+idle k (clears i) w h = (rw (or-false (eqb i (k .iface)) false h .0), refl)
+idle k (sweeps i now) w h = absurd (true≢false h)
+
+told-counting : (k : Key) (cs : List Call) (w : Watch) → joined (toldAll k cs w) ≡ joined (toldAll k (counting k cs) w)
+told-counting k [] w = refl
+told-counting k (c ∷ cs) w = go (owns k c || isSweep c) refl (λ v. told-counting k cs v)
+  where
+    go : (x : Bool) → (owns k c || isSweep c) ≡ x → ((v : Watch) → joined (toldAll k cs v) ≡ joined (toldAll k (counting k cs) v))
+        → joined (toldAll k (c ∷ cs) w) ≡ joined (toldAll k (cond x (c ∷ counting k cs) (counting k cs)) w)
+    go true h ih = rw (ih (watchCall k c w))
+    go false h ih = rw (idle k (effect c) w h .0, idle k (effect c) w h .1) (ih w)
+
+-- and those that do evict nothing
+own-puts : (k : Key) (v : Effect) → (ownsEffect k v || isSweepEffect v) ≡ true → putsOtherEffect k v ≡ false
+own-puts k nothing h = refl
+own-puts k (puts j s) h = rw (or-true (sameKey k j) h)
+own-puts k (removes j) h = refl
+own-puts k (clears i) h = refl
+own-puts k (sweeps i now) h = refl
+
+kept-counting : (k : Key) (cs : List Call) (t : Table) → Kept k (counting k cs) t
+kept-counting k [] t = tt
+kept-counting k (c ∷ cs) t = go (owns k c || isSweep c) refl (λ u. kept-counting k cs u)
+  where
+    go : (x : Bool) → (owns k c || isSweep c) ≡ x → ((u : Table) → Kept k (counting k cs) u) → Kept k (cond x (c ∷ counting k cs) (counting k cs)) t
+    go true h ih = (rw (own-puts k (effect c) h) tt, ih (next c t))
+    go false h ih = ih t
+
+-- what is reported and what is left
+sweep-left : (own : Bool) (now : Instant) (w : Watch) → told own now w ++ left (watchSweep own now w) ≡ left w
+sweep-left own now waiting = refl
+sweep-left own now (dueAt p d) = go (own && leb (d .0) (now .0)) (leb 3 p) refl
+  where
+    go : (x y : Bool) → leb 3 p ≡ y
+        → cond x (cond y (failure ∷ []) (retransmission ∷ [])) [] ++ left (cond x (cond y gone (dueAt (p + 1) (later now 1000))) (dueAt p d))
+        ≡ replicate (3 - p) retransmission ++ (failure ∷ [])
+    go true true h = let z : 3 - p ≡ 0 = omega (arith, leb-true) in rw z
+    go true false h = let z : 3 - p ≡ suc (3 - (p + 1)) = omega (arith, leb-false) in rw z
+    go false y h = refl
+sweep-left own now filled = refl
+sweep-left own now gone = refl
+
+effect-left : (k : Key) (v : Effect) (w : Watch) → ownsEffect k v ≡ false → toldEffect k v w ++ left (watchEffect k v w) ≡ left w
+effect-left k nothing w h = refl
+effect-left k (puts j s) w h = rw h
+effect-left k (removes j) w h = rw h
+effect-left k (clears i) w h = rw h
+effect-left k (sweeps i now) w h = sweep-left (eqb i (k .iface)) now w
+
+run-left : (k : Key) (cs : List Call) (w : Watch) → Alone k cs → joined (toldAll k cs w) ++ left (watchAll k cs w) ≡ left w
+run-left k [] w h = refl
+run-left k (c ∷ cs) w h = simp append-assoc (rw (run-left k cs (watchCall k c w) (h .1)) (effect-left k (effect c) w (h .0)))
+
+pub demand3 : Demand3
+demand3 = record {
+  made = λ cs. made cs [] empty-distinct (omega arith);
+  starts = λ k t d ok. acts k (start k) t [] (Started ∷ []) ok refl (put-own k Started t (d .once k));
+  stays = stays;
+  refusals = λ k c t why h. (rw h, rw h);
+  first = first;
+  early = early;
+  elsewhere = elsewhere;
+  again = again;
+  third = third;
+  life = λ k cs t d h al kept. rw (trace-told k cs t d kept, trace-watch k cs t d kept, h) (run-left k cs waiting al);
+  evicted = λ k c t s d h u e. let g = evicted-only k c t d e in (g .0, g .1 s h u);
+  trace = λ k cs t d kept. (trace-told k cs t d kept, trace-watch k cs t d kept);
+  run = trace-run;
+  traffic =
+      λ k cs t d kept.
+      ap joined (trace-told k cs t d kept)
+      ∙ told-counting k cs (watchOf (entriesOf k t))
+      ∙ sym (ap joined (trace-told k (counting k cs) t d (kept-counting k cs t)));
+}

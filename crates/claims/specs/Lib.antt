@@ -1,0 +1,3 @@
+pub mod Calls
+pub mod Watch
+pub mod Demand3
