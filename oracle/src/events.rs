@@ -293,12 +293,22 @@ impl Host<'_> {
             if option[0] == 3 {
                 let secs = |i: usize| u64::from(u32::from_be_bytes(option[i..i + 4].try_into().unwrap()));
                 let (valid, preferred) = (secs(4), secs(8));
-                if valid > LONGEST || preferred > LONGEST {
-                    self.times.outside = Some("a lifetime above the Rust's longest");
-                }
-                self.times.note(time + 1000 * valid.max(preferred));
-                if link_local_differs(option[16..32].try_into().unwrap()) {
-                    self.times.outside = Some("a prefix in fe80::/10 and not in fe80::/64");
+                let prefix: &[u8; 16] = option[16..32].try_into().unwrap();
+                // One that both sides skip, whatever its lifetimes: up to the longest lifetime the order of the two
+                // is the same for both.
+                let skipped = option[2] > 128
+                    || option[3] & 0x40 == 0
+                    || prefix[0] == 0xff
+                    || preferred > valid && valid <= LONGEST
+                    || link_local(prefix) && !link_local_differs(prefix);
+                if !skipped {
+                    if valid > LONGEST {
+                        self.times.outside = Some("a lifetime above the Rust's longest");
+                    }
+                    self.times.note(time + 1000 * valid);
+                    if link_local_differs(prefix) {
+                        self.times.outside = Some("a prefix in fe80::/10 and not in fe80::/64");
+                    }
                 }
             }
             at += 8 * usize::from(option[1]);

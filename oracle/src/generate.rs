@@ -277,7 +277,7 @@ impl Maker {
     /// The times that the tables hold.
     fn deadlines(&self) -> Vec<u64> {
         let mut times = Vec::new();
-        if let Some(s) = &self.model.ifaces[0].slaac {
+        for s in self.model.ifaces.iter().filter_map(|i| i.slaac.as_ref()) {
             for p in &s.prefixes {
                 times.push(p.valid);
                 times.push(p.preferred);
@@ -435,6 +435,7 @@ impl Maker {
             4..=6 => valid,
             _ => self.rng.below(valid + 1),
         };
+        let preferred = if self.wide { preferred } else { preferred.min(crate::events::LONGEST) };
         // A prefix that is known and ends now.
         let (valid, preferred) = if self.rng.one_in(8) { (0, self.rng.below(20) / 18) } else { (valid, preferred) };
         let units = if self.rng.one_in(25) { 5 + self.rng.below(3) } else { 4 } as usize;
@@ -898,4 +899,200 @@ fn damage(rng: &mut Rng, text: String) -> Vec<u8> {
         }
     }
     (lines.join("\n") + "\n").into_bytes()
+}
+
+// ---- single calls
+
+/// The `number`th sequence of calls of a seed, a line each.
+pub fn calls(seed: u64, number: u64, wide: bool) -> Vec<String> {
+    let mut maker = Maker::new(Rng::new(seed ^ 0x6361_6c6c, number), wide);
+    let mut side = crate::calls::Modelled::default();
+    let mut lines = Vec::new();
+    let first = format!("new {:012x} {}", maker.file.mac, maker.base);
+    crate::calls::answer(&mut side, &first);
+    lines.push(first);
+    let style = maker.rng.below(6);
+    // Few addresses, so that keys meet on several interfaces; many for a full cache.
+    if style == 2 {
+        maker.few = 30;
+    }
+    for _ in 0..10 + maker.rng.below(80) {
+        maker.model = side.0.clone();
+        let line = maker.call(style);
+        crate::calls::answer(&mut side, &line);
+        lines.push(line);
+    }
+    for dump in ["cache", "queue", "routes"] {
+        lines.push(dump.into());
+    }
+    for iface in 0..4 {
+        for dump in ["slaac", "prefixes", "routers", "addresses"] {
+            lines.push(format!("{dump} {iface}"));
+        }
+    }
+    lines
+}
+
+impl Maker {
+    fn call(&mut self, style: u64) -> String {
+        let iface = match self.rng.below(40) {
+            0 => self.rng.of(&[4, 5, 255, 256, u64::from(u32::MAX)]),
+            n => n % self.rng.of(&[1, 2, 4]),
+        };
+        match style {
+            0 => self.option_call(),
+            1..=2 => self.cache_call(iface),
+            3 => self.queue_call(iface),
+            4 => self.slaac_call(iface),
+            _ => match self.rng.below(4) {
+                0 => self.cache_call(iface),
+                1 => self.queue_call(iface),
+                _ => self.slaac_call(iface),
+            },
+        }
+    }
+
+    fn deadline(&mut self) -> String {
+        match self.rng.below(3) {
+            0 => "-".into(),
+            1 => {
+                let times = self.deadlines();
+                let t = if times.is_empty() { self.now } else { self.rng.of(&times) };
+                t.to_string()
+            }
+            _ => (self.now + self.rng.below(70_000)).to_string(),
+        }
+    }
+
+    fn option_call(&mut self) -> String {
+        let hex = |b: &[u8]| if b.is_empty() { "-".into() } else { crate::text::hex(b) };
+        if self.rng.one_in(3) {
+            let len = self.rng.of(&[0, 7, 8, 9, 15, 31, 32, 33, 40, 64]);
+            let message: Vec<u8> = (0..len).map(|_| self.rng.next() as u8).collect();
+            let kind = self.rng.of(&[1u64, 2, 3, 3, 5]);
+            let size = if kind == 3 { 32 } else { 8 };
+            let place = match self.rng.below(6) {
+                0 => self.rng.below(70),
+                1 => u64::MAX,
+                2 => (len + 1u64).saturating_sub(size),
+                3 => 0,
+                _ => len.saturating_sub(size),
+            };
+            let rest = match kind {
+                1 | 2 => format!("{:012x}", self.hardware()),
+                3 => {
+                    let prefix = self.rng.of(&self.prefixes) | u128::from(self.rng.next());
+                    let (a, b) = (self.seconds(), self.seconds());
+                    format!("{} {} {a} {b} {prefix:032x}", self.rng.below(256), self.rng.below(256))
+                }
+                _ => format!("{}", self.rng.next() as u32),
+            };
+            return format!("write {} {place} {kind} {rest}", hex(&message));
+        }
+        let mut bytes = if self.rng.one_in(2) {
+            self.option()
+        } else {
+            let kind = self.rng.of(&[0, 1, 2, 3, 3, 4, 4, 5, 6, 255]);
+            let units = self.rng.of(&[0, 1, 1, 2, 3, 4, 5, 6, 7, 255]);
+            let mut o: Vec<u8> = (0..8 * usize::from(units)).map(|_| self.rng.next() as u8).collect();
+            o.resize(o.len().max(8), 0);
+            o[0] = kind;
+            o[1] = units;
+            if kind == 3 && o.len() >= 32 && !self.wide {
+                let (a, b) = (self.seconds() as u32, self.seconds() as u32);
+                o[4..8].copy_from_slice(&a.to_be_bytes());
+                o[8..12].copy_from_slice(&b.to_be_bytes());
+            }
+            o
+        };
+        match self.rng.below(6) {
+            0 => {
+                bytes.pop();
+            }
+            1 => bytes.push(self.rng.next() as u8),
+            2 => bytes.truncate(self.rng.below(9) as usize),
+            _ => {}
+        }
+        format!("option {}", hex(&bytes))
+    }
+
+    fn cache_call(&mut self, iface: u64) -> String {
+        match self.rng.below(24) {
+            0..=1 => format!("lookup {iface} {:032x}", self.neighbour()),
+            2..=6 => format!("start {iface} {:032x}", self.neighbour()),
+            7..=9 => {
+                let (addr, mac) = (self.neighbour(), self.hardware());
+                format!("fill {iface} {addr:032x} {mac:012x} {}", self.time(Kind::Fill))
+            }
+            10..=12 => {
+                let (addr, mac) = (self.neighbour(), self.hardware());
+                let expires = match self.rng.below(4) {
+                    0 => self.time(Kind::Fill),
+                    _ => (self.now + self.rng.below(5_000)).min(LATEST),
+                };
+                format!("insert {iface} {addr:032x} {mac:012x} {expires}")
+            }
+            13 => format!("get {iface} {:032x}", self.neighbour()),
+            14 => format!("remove {iface} {:032x}", self.neighbour()),
+            15 if self.rng.one_in(3) => format!("clear {iface}"),
+            16 => "cache".into(),
+            _ => {
+                let now = self.time(Kind::Sweep);
+                format!("sweep {iface} {now} {}", self.deadline())
+            }
+        }
+    }
+
+    fn queue_call(&mut self, iface: u64) -> String {
+        match self.rng.below(20) {
+            0..=7 => {
+                let handle = if self.rng.one_in(3) { self.rng.below(4) } else { self.rng.next() >> 32 };
+                format!("push {iface} {:032x} {handle}", self.neighbour())
+            }
+            8..=9 => format!("release {iface} {:032x}", self.neighbour()),
+            10 => "orphans".into(),
+            11 => format!("purge {iface}"),
+            12 => "queue".into(),
+            _ => self.cache_call(iface),
+        }
+    }
+
+    fn slaac_call(&mut self, iface: u64) -> String {
+        match self.rng.below(40) {
+            0..=1 => format!("link {iface} {}", self.rng.of(&["up", "up", "down"])),
+            2 => format!("restart {iface}"),
+            3 => format!("on {iface}"),
+            4 if self.rng.one_in(2) => format!("off {iface}"),
+            5..=7 => {
+                let own = LINK_LOCAL | u128::from(model::eui64(self.file.mac));
+                let prefix = self.rng.of(&self.prefixes);
+                let formed = prefix >> 64 << 64 | u128::from(model::eui64(self.file.mac));
+                let other = 0x2001_0db8 << 96 | u128::from(self.rng.below(20));
+                let addr = self.rng.of(&[own, own, formed, other, other, 0xff02 << 112 | 1]);
+                let len = self.rng.of(&[64, 64, 64, 128, 129, 0, 48]);
+                format!("address {iface} {addr:032x} {len}")
+            }
+            8..=9 => {
+                let via = self.rng.of(&self.routers) | u128::from(self.rng.below(3));
+                format!("route {iface} {via:032x}")
+            }
+            10..=19 => {
+                let now = self.time(Kind::Ra);
+                let source = self.router();
+                let message = self.advertisement();
+                format!("ra {iface} {source:032x} {now} {}", crate::text::hex(&message))
+            }
+            20..=33 => {
+                let now = self.time(Kind::Poll);
+                let room = self.rng.of(&[0, 15, 16, 16, 16, 17, 1500]);
+                format!("poll {iface} {now} {} {room}", self.deadline())
+            }
+            34 => format!("slaac {iface}"),
+            35 => format!("prefixes {iface}"),
+            36 => format!("routers {iface}"),
+            37 => format!("addresses {iface}"),
+            38 => "routes".into(),
+            _ => self.cache_call(iface),
+        }
+    }
 }

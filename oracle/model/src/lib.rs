@@ -233,6 +233,58 @@ fn option_or_why(rest: &[u8]) -> Result<(u8, &[u8]), &'static str> {
     Ok((rest[0], &rest[..len]))
 }
 
+/// An option read on its own.
+pub fn read_option(rest: &[u8]) -> Option<(u8, &[u8])> {
+    let read = option_or_why(rest);
+    match read {
+        Ok((1, _)) => mark!("calls.option-1"),
+        Ok((2, _)) => mark!("calls.option-2"),
+        Ok((3, _)) => mark!("calls.option-3"),
+        Ok((4, _)) => mark!("calls.option-4"),
+        Ok((5, _)) => mark!("calls.option-5"),
+        Ok(_) => mark!("calls.option-unknown"),
+        Err("under-8") => mark!("calls.option-under-8"),
+        Err("length-0") => mark!("calls.option-length-0"),
+        Err("cut-short") => mark!("calls.option-cut-short"),
+        Err("type-3") => mark!("calls.option-short-type-3"),
+        Err(_) => mark!("calls.option-short-type-4"),
+    }
+    if let Ok((_, option)) = read {
+        if option.len() < rest.len() {
+            mark!("calls.option-with-more-behind");
+        }
+        if option.len() == 8 * 255 {
+            mark!("calls.option-longest");
+        }
+    }
+    read.ok()
+}
+
+/// Write an option's bytes at a place in a message; false if there is no room.
+pub fn write_at(message: &mut [u8], place: usize, option: &[u8]) -> bool {
+    let room = message.len().checked_sub(place);
+    match room {
+        None => mark!("calls.write-place-past-end"),
+        Some(room) if room < option.len() => mark!("calls.write-no-room"),
+        Some(room) => {
+            if room == option.len() {
+                mark!("calls.write-fits-exactly");
+            } else {
+                mark!("calls.write-with-more-behind");
+            }
+            match option[0] {
+                1 => mark!("calls.write-1"),
+                2 => mark!("calls.write-2"),
+                3 => mark!("calls.write-3"),
+                _ => mark!("calls.write-5"),
+            }
+            message[place..place + option.len()].copy_from_slice(option);
+            return true;
+        }
+    }
+    false
+}
+
 /// RFC 4443 2.3: the checksum of an ICMPv6 message over its pseudo-header.
 pub fn checksum(src: Addr, dst: Addr, message: &[u8]) -> u16 {
     let mut bytes = Vec::new();
@@ -279,18 +331,26 @@ impl Model {
 
     pub fn add_address(&mut self, iface: usize, addr: Addr, len: u64) -> Answer<()> {
         if iface >= IFACES {
+            mark!("calls.address-7");
             return Answer::Refused(7);
         }
         if len > 128 {
+            mark!("calls.address-14");
             return Answer::Refused(14);
         }
         let table = &mut self.ifaces[iface].addrs;
-        if table.iter().any(|a| a.addr == addr && u64::from(a.len) == len) {
+        if let Some(old) = table.iter().find(|a| a.addr == addr && u64::from(a.len) == len) {
+            mark!("calls.address-9");
+            if old.slaac {
+                mark!("calls.address-9-of-slaac");
+            }
             return Answer::Refused(9);
         }
         if table.len() == ADDRESSES {
+            mark!("calls.address-8");
             return Answer::Refused(8);
         }
+        mark!("calls.address");
         table.push(Address {
             addr,
             len: len as u8,
@@ -303,13 +363,23 @@ impl Model {
     /// A default route of the application.
     pub fn add_route(&mut self, iface: usize, via: Addr) -> Answer<()> {
         if iface >= IFACES {
+            mark!("calls.route-7");
             return Answer::Refused(7);
         }
         if self.routes.iter().any(|r| !r.slaac && r.via == via && r.iface == iface) {
+            mark!("calls.route-9");
+            if self.routes.len() == ROUTES {
+                mark!("calls.route-9-before-8");
+            }
             return Answer::Refused(9);
         }
         if self.routes.len() == ROUTES {
+            mark!("calls.route-8");
             return Answer::Refused(8);
+        }
+        mark!("calls.route");
+        if self.routes.iter().any(|r| r.slaac && r.via == via && r.iface == iface) {
+            mark!("calls.route-beside-slaac");
         }
         self.routes.push(Route {
             iface,
@@ -345,7 +415,10 @@ impl Model {
 
     pub fn turn_on(&mut self, iface: usize) {
         if self.ifaces[iface].slaac.is_none() {
+            mark!("calls.on");
             self.ifaces[iface].slaac = Some(Slaac::fresh());
+        } else {
+            mark!("calls.on-again");
         }
     }
 
@@ -363,6 +436,15 @@ impl Model {
             if self.neighbours.iter().any(|n| n.iface == iface) {
                 mark!("off.address-gone-clears-neighbours");
             }
+            if self.neighbours.iter().any(|n| n.iface != iface) {
+                mark!("calls.off-keeps-other-neighbours");
+            }
+            if self.packets.iter().any(|p| p.iface == iface) {
+                mark!("calls.off-drops-packets");
+            }
+            if self.packets.iter().any(|p| p.iface != iface) {
+                mark!("calls.off-keeps-other-packets");
+            }
             self.neighbours.retain(|n| n.iface != iface);
             self.packets.retain(|p| p.iface != iface);
         } else if self.neighbours.iter().any(|n| n.iface == iface) {
@@ -370,6 +452,12 @@ impl Model {
         }
         if self.routes.iter().any(|r| r.slaac && r.iface == iface) {
             mark!("off.route-gone");
+        }
+        if self.routes.iter().any(|r| r.slaac && r.iface != iface) {
+            mark!("calls.off-keeps-other-routes");
+        }
+        if self.routes.iter().any(|r| !r.slaac && r.iface == iface) {
+            mark!("calls.off-keeps-application-routes");
         }
         self.routes.retain(|r| !(r.slaac && r.iface == iface));
     }
@@ -380,9 +468,13 @@ impl Model {
             if iface < IFACES && self.ifaces[iface].slaac.is_none() {
                 mark!("ra.3-before-off");
             }
+            if iface >= IFACES {
+                mark!("calls.ra-3-before-7");
+            }
             return Answer::Refused(3);
         }
         if iface >= IFACES {
+            mark!("calls.ra-7");
             return Answer::Refused(7);
         }
         if self.ifaces[iface].slaac.is_none() {
@@ -600,15 +692,23 @@ impl Model {
             if iface < IFACES && self.ifaces[iface].slaac.is_none() {
                 mark!("poll.3-before-off");
             }
+            if iface >= IFACES {
+                mark!("calls.poll-3-before-7");
+            }
             return Answer::Refused(3);
         }
         if iface >= IFACES {
+            mark!("calls.poll-7");
             return Answer::Refused(7);
         }
         if self.ifaces[iface].slaac.is_none() {
             mark!("poll.off");
+            if clock.deadline.is_some() {
+                mark!("calls.poll-off-keeps-deadline");
+            }
             return Answer::Off;
         }
+        let given = clock.deadline;
         let sent = self.solicit(iface, clock, room);
         let synced = self.sync(iface, clock);
         if synced && sent != Sent::Nothing {
@@ -616,6 +716,12 @@ impl Model {
         }
         if synced && !self.ifaces[iface].up {
             mark!("sync.link-down");
+        }
+        match (given, clock.deadline) {
+            (None, None) => mark!("calls.poll-no-deadline"),
+            (None, Some(_)) => mark!("calls.poll-deadline"),
+            (a, b) if a == b => mark!("calls.poll-deadline-stays"),
+            _ => mark!("calls.poll-deadline-forward"),
         }
         Answer::Done(sent)
     }
@@ -675,6 +781,7 @@ impl Model {
             mark!("solicit.first-of-several-sources");
         }
         if !room {
+            mark!("calls.solicit-no-room");
             return Sent::NoRoom;
         }
         let mut message = [0; 16];
@@ -823,7 +930,15 @@ impl Model {
                             until: Some(r.until),
                         });
                     }
-                    None => {}
+                    None => mark!("calls.sync-routes-full"),
+                }
+                let others = |t: &Route| t.slaac && t.iface != iface && t.via == r.addr;
+                if self.routes.iter().any(others) {
+                    mark!("calls.sync-route-of-other-interface-not-heeded");
+                }
+                let own = |t: &Route| !t.slaac && t.iface == iface && t.via == r.addr;
+                if self.routes.iter().any(own) {
+                    mark!("calls.sync-route-of-application-not-heeded");
                 }
             } else {
                 match known {
@@ -888,6 +1003,9 @@ impl Model {
             State::Started => mark!("start.new"),
             _ => mark!("fill.new"),
         }
+        if self.neighbours.iter().any(|n| n.addr == addr) {
+            mark!("calls.same-address-on-other-interface");
+        }
         if self.neighbours.len() < NEIGHBOURS {
             if self.neighbours.len() == NEIGHBOURS - 1 {
                 mark!("cache.last-place");
@@ -896,6 +1014,9 @@ impl Model {
             return;
         }
         let i = self.victim();
+        if self.neighbours[i].iface != iface {
+            mark!("calls.evicts-of-other-interface");
+        }
         match state {
             State::Started => mark!("evict.by-start"),
             _ => mark!("evict.by-fill"),
@@ -976,20 +1097,43 @@ impl Model {
 
     pub fn lookup(&self, iface: usize, addr: Addr) -> Answer<Found> {
         if iface >= IFACES {
+            mark!("calls.lookup-7");
             return Answer::Refused(7);
         }
         if !is_unicast(addr) {
+            mark!("calls.lookup-2");
             return Answer::Refused(2);
         }
         Answer::Done(match self.find(iface, addr).map(|i| self.neighbours[i].state) {
-            Some(State::Reachable { mac, .. }) => Found::Found(mac),
-            Some(State::Started | State::Incomplete { .. }) => Found::Pending,
-            Some(State::Stale { .. }) | None => Found::NotFound,
+            Some(State::Reachable { mac, .. }) => {
+                mark!("calls.lookup-found");
+                Found::Found(mac)
+            }
+            Some(State::Started) => {
+                mark!("calls.lookup-started");
+                Found::Pending
+            }
+            Some(State::Incomplete { .. }) => {
+                mark!("calls.lookup-incomplete");
+                Found::Pending
+            }
+            Some(State::Stale { .. }) => {
+                mark!("calls.lookup-stale");
+                Found::NotFound
+            }
+            None => {
+                mark!("calls.lookup-absent");
+                Found::NotFound
+            }
         })
     }
 
     pub fn start(&mut self, iface: usize, addr: Addr) -> Answer<()> {
         if iface >= IFACES {
+            mark!("calls.start-7");
+            if !is_unicast(addr) {
+                mark!("calls.start-7-before-2");
+            }
             return Answer::Refused(7);
         }
         if !is_unicast(addr) {
@@ -1010,9 +1154,13 @@ impl Model {
             if !is_unicast(addr) || !is_unicast_mac(mac) {
                 mark!("fill.3-before-2");
             }
+            if iface >= IFACES {
+                mark!("calls.fill-3-before-7");
+            }
             return Answer::Refused(3);
         }
         if iface >= IFACES {
+            mark!("calls.fill-7");
             return Answer::Refused(7);
         }
         if !is_unicast(addr) || !is_unicast_mac(mac) {
@@ -1036,27 +1184,44 @@ impl Model {
 
     pub fn insert(&mut self, iface: usize, addr: Addr, mac: Mac, until: u64) -> Answer<()> {
         if until > LATEST {
+            mark!("calls.insert-3");
             return Answer::Refused(3);
         }
         if iface >= IFACES {
+            mark!("calls.insert-7");
             return Answer::Refused(7);
         }
         if !is_unicast(addr) || !is_unicast_mac(mac) {
+            if is_unicast(addr) {
+                mark!("calls.insert-2-group-hardware-address");
+            } else {
+                mark!("calls.insert-2");
+            }
             return Answer::Refused(2);
         }
+        mark!("calls.insert");
         self.put(iface, addr, State::Reachable { mac, until });
         Answer::Done(())
     }
 
     pub fn get(&self, iface: usize, addr: Addr) -> Answer<Option<State>> {
         if iface >= IFACES {
+            mark!("calls.get-7");
             return Answer::Refused(7);
+        }
+        match self.find(iface, addr).map(|i| self.neighbours[i].state) {
+            None => mark!("calls.get-nothing"),
+            Some(State::Started) => mark!("calls.get-started"),
+            Some(State::Incomplete { .. }) => mark!("calls.get-incomplete"),
+            Some(State::Reachable { .. }) => mark!("calls.get-reachable"),
+            Some(State::Stale { .. }) => mark!("calls.get-stale"),
         }
         Answer::Done(self.find(iface, addr).map(|i| self.neighbours[i].state))
     }
 
     pub fn remove(&mut self, iface: usize, addr: Addr) -> Answer<Option<State>> {
         if iface >= IFACES {
+            mark!("calls.remove-7");
             return Answer::Refused(7);
         }
         let Some(i) = self.find(iface, addr) else {
@@ -1093,7 +1258,13 @@ impl Model {
 
     pub fn clear(&mut self, iface: usize) -> Answer<()> {
         if iface >= IFACES {
+            mark!("calls.clear-7");
             return Answer::Refused(7);
+        }
+        mark!("calls.clear");
+        let first = self.neighbours.iter().position(|n| n.iface == iface);
+        if first.is_some_and(|f| self.neighbours[f..].iter().filter(|n| n.iface != iface).count() > 1) {
+            mark!("calls.clear-keeps-order");
         }
         self.neighbours.retain(|n| n.iface != iface);
         Answer::Done(())
@@ -1103,16 +1274,24 @@ impl Model {
         let now = clock.now;
         if now > LATEST {
             mark!("sweep.3");
+            if iface >= IFACES {
+                mark!("calls.sweep-3-before-7");
+            }
             return Answer::Refused(3);
         }
         if iface >= IFACES {
+            mark!("calls.sweep-7");
             return Answer::Refused(7);
         }
+        let given = clock.deadline;
         // The expiry pass.
         for n in &mut self.neighbours {
             match n.state {
                 State::Started => {
                     mark!("sweep.started");
+                    if n.iface != iface {
+                        mark!("calls.sweep-started-of-other-interface");
+                    }
                     let due = now + 1_000;
                     n.state = State::Incomplete { probes: 1, due };
                     clock.schedule(due);
@@ -1123,6 +1302,9 @@ impl Model {
                 State::Reachable { mac, until } => {
                     if clock.expired(until) {
                         mark!("sweep.becomes-stale");
+                        if n.iface != iface {
+                            mark!("calls.sweep-stale-of-other-interface");
+                        }
                         if until == now {
                             mark!("sweep.becomes-stale-exactly");
                         }
@@ -1156,6 +1338,9 @@ impl Model {
                     mark!("sweep.moved-in-not-due");
                 }
                 moved_in = false;
+                if n.iface != iface && due <= now {
+                    mark!("calls.sweep-due-of-other-interface");
+                }
                 if n.iface == iface {
                     mark!("sweep.not-due");
                     if due == now + 1 {
@@ -1200,6 +1385,12 @@ impl Model {
                 place += 1;
             }
         }
+        match (given, clock.deadline) {
+            (None, None) => mark!("calls.sweep-no-deadline"),
+            (None, Some(_)) => mark!("calls.sweep-deadline"),
+            (a, b) if a == b => mark!("calls.sweep-deadline-stays"),
+            _ => mark!("calls.sweep-deadline-forward"),
+        }
         match events.len() {
             0 => mark!("sweep.no-event"),
             1 => {}
@@ -1218,11 +1409,20 @@ impl Model {
     /// The handle that was dropped to make room, if one was.
     pub fn push(&mut self, iface: usize, addr: Addr, handle: u32) -> Answer<Option<u32>> {
         if iface >= IFACES {
+            mark!("calls.push-7");
             return Answer::Refused(7);
         }
+        if !is_unicast(addr) {
+            mark!("calls.push-any-address");
+        }
+        if self.packets.iter().any(|p| p.handle == handle) {
+            mark!("calls.push-handle-again");
+        }
         let dropped = if self.packets.len() == PACKETS {
+            mark!("calls.push-full");
             Some(self.packets.remove(0).handle)
         } else {
+            mark!("calls.push");
             None
         };
         self.packets.push(Packet { iface, addr, handle });
@@ -1231,27 +1431,68 @@ impl Model {
 
     pub fn release(&mut self, iface: usize, addr: Addr) -> Answer<Option<u32>> {
         if iface >= IFACES {
+            mark!("calls.release-7");
             return Answer::Refused(7);
         }
-        let at = self.packets.iter().position(|p| p.iface == iface && p.addr == addr);
+        let of_key = |p: &Packet| p.iface == iface && p.addr == addr;
+        let at = self.packets.iter().position(of_key);
+        match at {
+            None => mark!("calls.release-nothing"),
+            Some(i) => {
+                mark!("calls.release");
+                if self.packets.iter().filter(|p| of_key(p)).count() > 1 {
+                    mark!("calls.release-oldest-of-several");
+                }
+                if i > 0 {
+                    mark!("calls.release-not-the-first");
+                }
+            }
+        }
         Answer::Done(at.map(|i| self.packets.remove(i).handle))
     }
 
     pub fn purge_orphans(&mut self) -> Vec<u32> {
-        let keeps = |p: &Packet| match self.find(p.iface, p.addr) {
-            None => false,
-            Some(i) => !matches!(self.neighbours[i].state, State::Stale { .. }),
+        let keeps = |p: &Packet| match self.find(p.iface, p.addr).map(|i| self.neighbours[i].state) {
+            None => {
+                mark!("calls.orphan-absent");
+                false
+            }
+            Some(State::Stale { .. }) => {
+                mark!("calls.orphan-stale");
+                false
+            }
+            Some(State::Started) => {
+                mark!("calls.no-orphan-started");
+                true
+            }
+            Some(State::Incomplete { .. }) => {
+                mark!("calls.no-orphan-incomplete");
+                true
+            }
+            Some(State::Reachable { .. }) => {
+                mark!("calls.no-orphan-reachable");
+                true
+            }
         };
         let (kept, gone): (Vec<Packet>, Vec<Packet>) = self.packets.iter().partition(|p| keeps(p));
+        if gone.len() > 1 && !kept.is_empty() {
+            mark!("calls.orphans-several");
+        }
         self.packets = kept;
         gone.iter().map(|p| p.handle).collect()
     }
 
     pub fn purge_iface(&mut self, iface: usize) -> Answer<Vec<u32>> {
         if iface >= IFACES {
+            mark!("calls.purge-7");
             return Answer::Refused(7);
         }
         let (gone, kept): (Vec<Packet>, Vec<Packet>) = self.packets.iter().partition(|p| p.iface == iface);
+        match (gone.len(), kept.len()) {
+            (0, _) => mark!("calls.purge-none"),
+            (2.., 1..) => mark!("calls.purge-several"),
+            _ => mark!("calls.purge"),
+        }
         self.packets = kept;
         Answer::Done(gone.iter().map(|p| p.handle).collect())
     }

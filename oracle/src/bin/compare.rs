@@ -8,7 +8,7 @@ use std::time::Instant;
 
 use oracle::{events, generate};
 
-const USAGE: &str = "compare [-n FILES] [-s SEED] [--first N] [--events PROGRAM] [--model] [--wide] [--keep FOLDER] [--all] [FILE..]
+const USAGE: &str = "compare [-n FILES] [-s SEED] [--first N] [--events PROGRAM] [--model] [--wide] [--keep FOLDER] [--all] [--calls] [FILE..]
 
   -n FILES          how many files (10000)
   -s SEED           of the generator (1)
@@ -18,6 +18,7 @@ const USAGE: &str = "compare [-n FILES] [-s SEED] [--first N] [--events PROGRAM]
   --wide            the model in place of the Rust, on files that the Rust can not be compared on as well
   --keep FOLDER     where a file that differs is kept (oracle/kept)
   --all             go on after a difference, keeping each
+  --calls           sequences of single calls, the Rust against the model, in place of event files
   FILE..            compare on these files instead of generated ones";
 
 /// The program on the other side.
@@ -80,53 +81,12 @@ impl Compare {
         self.both(input).is_some_and(|(l, r)| l != r)
     }
 
-    /// The file without lines that the difference does not need.
-    fn shrink(&self, input: &[u8]) -> Vec<u8> {
-        let Ok(text) = std::str::from_utf8(input) else {
-            return input.to_vec();
-        };
-        let mut best: Vec<String> = text.lines().map(|l| l.to_string()).collect();
-        let without = |lines: &[String], i: usize| -> Option<Vec<String>> {
-            // The heading above the line counts one fewer.
-            let head = (0..i).rev().find(|h| lines[*h].starts_with("addresses ") || lines[*h].starts_with("events "))?;
-            let (word, n) = lines[head].split_once(' ')?;
-            let n: u64 = n.parse().ok()?;
-            if lines[i].starts_with("events ") {
-                return None;
-            }
-            let mut fewer = lines.to_vec();
-            fewer[head] = format!("{word} {}", n.checked_sub(1)?);
-            fewer.remove(i);
-            Some(fewer)
-        };
-        let joined = |lines: &[String]| (lines.join("\n") + "\n").into_bytes();
-        if !self.differs(&joined(&best)) {
-            return input.to_vec();
-        }
-        loop {
-            let before = best.len();
-            let mut i = best.len();
-            while i > 2 {
-                i -= 1;
-                if let Some(fewer) = without(&best, i)
-                    && self.differs(&joined(&fewer))
-                {
-                    best = fewer;
-                    i = i.min(best.len());
-                }
-            }
-            if best.len() == before {
-                return joined(&best);
-            }
-        }
-    }
-
     fn report(&self, name: &str, input: &[u8]) {
         let (left, right) = self.both(input).unwrap();
         fs::create_dir_all(&self.keep).unwrap();
         let at = |end: &str| self.keep.join(format!("{name}.{end}"));
         fs::write(at("in"), input).unwrap();
-        let small = self.shrink(input);
+        let small = oracle::shrink::shrink(input, |i| self.differs(i));
         let (small_left, small_right) = self.both(&small).unwrap();
         fs::write(at("small.in"), &small).unwrap();
         let (l, r) = if self.wide { ("model", "other") } else { ("rust", "other") };
@@ -162,7 +122,7 @@ fn main() {
     xarxa::world::quiet_expected_panics();
     let root = Path::new(env!("CARGO_MANIFEST_DIR")).join("..");
     let (mut count, mut seed, mut first) = (10_000u64, 1u64, 0u64);
-    let (mut program, mut use_model, mut wide, mut all) = (None, false, false, false);
+    let (mut program, mut use_model, mut wide, mut all, mut calls) = (None, false, false, false, false);
     let mut keep = Path::new(env!("CARGO_MANIFEST_DIR")).join("kept");
     let mut files = Vec::new();
     let mut args = std::env::args().skip(1);
@@ -177,10 +137,14 @@ fn main() {
             "--model" => use_model = true,
             "--wide" => wide = true,
             "--all" => all = true,
+            "--calls" => calls = true,
             "--keep" => keep = PathBuf::from(value()),
             a if a.starts_with('-') => usage(),
             a => files.push(PathBuf::from(a)),
         }
+    }
+    if calls {
+        return compare_calls(seed, first, count, &keep);
     }
     let default = root.join("target/bin/events");
     let scratch = std::env::temp_dir().join(format!("oracle-compare-{}.in", std::process::id()));
@@ -241,18 +205,61 @@ fn main() {
     }
     let _ = fs::remove_file(&scratch);
     eprint!("\r");
-    let reached = fired.iter().filter(|n| **n > 0).count();
     println!(
         "{done} files equal, {differences} differ, {outside} outside what the Rust can be compared on; {bytes} bytes; {:.1} s",
         began.elapsed().as_secs_f64()
     );
-    println!("rules reached: {reached} of {}", fired.len());
-    for (name, n) in model::marks::names().iter().zip(&fired) {
-        if *n == 0 {
-            println!("  not reached: {name}");
-        }
-    }
+    print_rules(&fired, false);
     if differences > 0 {
         exit(1)
     }
+}
+
+/// How many rules fired, and which did not: those of event files, or those of single calls.
+fn print_rules(fired: &[u64], calls: bool) {
+    let of_kind = |name: &str| name.starts_with("calls.") == calls;
+    let rules: Vec<(&str, u64)> = model::marks::names()
+        .iter()
+        .zip(fired)
+        .filter(|(name, _)| of_kind(name))
+        .map(|(name, n)| (*name, *n))
+        .collect();
+    println!("rules reached: {} of {}", rules.iter().filter(|r| r.1 > 0).count(), rules.len());
+    for (name, _) in rules.iter().filter(|r| r.1 == 0) {
+        println!("  not reached: {name}");
+    }
+}
+
+/// Single calls: the Rust against the model.
+fn compare_calls(seed: u64, first: u64, count: u64, keep: &Path) {
+    use oracle::calls::{Modelled, Real, answer};
+    let mut fired = vec![0u64; model::marks::names().len()];
+    let mut lines = 0u64;
+    let began = Instant::now();
+    for n in first..first + count {
+        let calls = generate::calls(seed, n, false);
+        model::marks::take();
+        let (mut real, mut modelled) = (Real::default(), Modelled::default());
+        for (i, line) in calls.iter().enumerate() {
+            let (l, r) = (answer(&mut real, line), answer(&mut modelled, line));
+            lines += 1;
+            if l != r {
+                println!("sequence {seed} {n}, line {}: {line}\n- {l}    (rust)\n+ {r}    (model)", i + 1);
+                fs::create_dir_all(keep).unwrap();
+                let path = keep.join(format!("calls-{seed}-{n}"));
+                fs::write(&path, calls[..=i].join("\n") + "\n").unwrap();
+                println!("kept: {}", path.display());
+                exit(1)
+            }
+            if l == "bad line" {
+                println!("bad line: {line}");
+                exit(1)
+            }
+        }
+        for (sum, n) in fired.iter_mut().zip(model::marks::take()) {
+            *sum += u64::from(n);
+        }
+    }
+    println!("{count} sequences, {lines} calls equal; {:.1} s", began.elapsed().as_secs_f64());
+    print_rules(&fired, true);
 }

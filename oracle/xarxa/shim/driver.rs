@@ -81,6 +81,10 @@ impl PacketBuf {
         }
     }
 
+    pub fn handle(&self) -> Option<u32> {
+        self.handle
+    }
+
     /// Take the packet apart; this is no drop.
     pub fn into_handle(mut self) -> u32 {
         self.handle.take().unwrap()

@@ -511,9 +511,9 @@ impl World {
         driver::take_dropped()
     }
 
-    /// How many packets wait, and their keys, in queue order. (A handle is seen when its packet leaves.)
-    pub fn waiting(&self) -> Vec<(usize, Addr)> {
-        let entry = |p: &crate::neighbor::PendingPacket| (p.key.0.index(), octets(p.key.1));
+    /// The packets, in queue order.
+    pub fn waiting(&self) -> Vec<(usize, Addr, u32)> {
+        let entry = |p: &crate::neighbor::PendingPacket| (p.key.0.index(), octets(p.key.1), p.buf.handle().unwrap());
         self.stack.inner.pending.probe_packets().map(entry).collect()
     }
 

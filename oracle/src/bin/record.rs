@@ -1,0 +1,368 @@
+//! `record FOLDER`: recorded cases `N.in` and `N.out`, answers by the real code. See README.md.
+
+use std::collections::HashSet;
+use std::fs;
+use std::path::{Path, PathBuf};
+use std::process::exit;
+
+use oracle::{events, generate, shrink};
+
+const USAGE: &str = "record FOLDER [-s SEED] [-n CANDIDATES]
+
+Writes N.in and N.out into FOLDER (which must be new or empty) and prints what each is for.";
+
+/// The examples of document 01, and some that its rules name.
+const WRITTEN: &[(&str, &str)] = &[
+    (
+        "document 01's example",
+        "mac 020000000001\naddresses 1\nfe80000000000000000000fffe000001 64\nevents 4\n0 up\n0 poll\n500 ra fe800000000000000000000000000001 86000000400007080000000000000000030440c000000e10000007080000000020010db8000000010000000000000000\n500 poll\n",
+    ),
+    (
+        "P11: start, and sweeps at 0, 999, 1000, 1999, 2000, 3000",
+        "mac 020000000001\naddresses 0\nevents 7\n0 start 20010db8000000000000000000000001\n0 sweep\n999 sweep\n1000 sweep\n1999 sweep\n2000 sweep\n3000 sweep\n",
+    ),
+    (
+        "two prefixes of one address, the second with 0: the address goes, the first entry stays",
+        "mac 020000000001\naddresses 0\nevents 4\n0 ra fe800000000000000000000000000001 86000000000007080000000000000000030440c000000e10000007080000000020010db8000000010000000000000000030440c000000e10000007080000000020010db8000000010000000000000001\n0 poll\n1 ra fe800000000000000000000000000001 86000000000007080000000000000000030440c000000000000000000000000020010db8000000010000000000000001\n1 poll\n",
+    ),
+    (
+        "P1 no options",
+        "mac 020000000001\naddresses 0\nevents 2\n0 ra fe800000000000000000000000000001 86000000000007080000000000000000\n0 poll\n",
+    ),
+    (
+        "P2 an option of 7 bytes",
+        "mac 020000000001\naddresses 0\nevents 2\n0 ra fe800000000000000000000000000001 8600000000000708000000000000000001010200000000\n0 poll\n",
+    ),
+    (
+        "P3 an option of length 0",
+        "mac 020000000001\naddresses 0\nevents 2\n0 ra fe800000000000000000000000000001 860000000000070800000000000000000100020000000001\n0 poll\n",
+    ),
+    (
+        "P4 type 3, L = 3, then L = 4",
+        "mac 020000000001\naddresses 0\nevents 3\n0 ra fe800000000000000000000000000001 86000000000007080000000000000000030340c000000e10000007080000000020010db800000001\n1 ra fe800000000000000000000000000001 86000000000007080000000000000000030440c000000e10000007080000000020010db8000000010000000000000000\n1 poll\n",
+    ),
+    (
+        "P5 type 4, L = 5, then L = 6",
+        "mac 020000000001\naddresses 0\nevents 3\n0 ra fe800000000000000000000000000001 8600000000000708000000000000000004050000000000000000000000000000000000000000000000000000000000000000000000000000\n1 ra fe800000000000000000000000000001 86000000000007080000000000000000040600000000000000000000000000000000000000000000000000000000000000000000000000000000000000000000\n1 poll\n",
+    ),
+    (
+        "P6 preferred 5 with valid 5, then 6 with 5",
+        "mac 020000000001\naddresses 0\nevents 2\n0 ra fe800000000000000000000000000001 86000000000007080000000000000000030440c000000005000000050000000020010db8000000010000000000000000030440c000000005000000060000000020010db8000000020000000000000000\n0 poll\n",
+    ),
+    (
+        "P7 prefix length 128, then 129",
+        "mac 020000000001\naddresses 0\nevents 2\n0 ra fe800000000000000000000000000001 86000000000007080000000000000000030480c000000005000000050000000020010db8000000010000000000000000030481c000000005000000050000000020010db8000000020000000000000000\n0 poll\n",
+    ),
+    (
+        "advertisement of one byte, and one digit pair only",
+        "mac 020000000001\naddresses 0\nevents 2\n0 ra fe800000000000000000000000000001 86\n0 poll\n",
+    ),
+];
+
+/// Inputs of the format, most with one thing wrong. `@` stands for the good file below.
+fn format_cases() -> Vec<(String, Vec<u8>)> {
+    let good = "mac 020000000001\naddresses 2\nfe80000000000000000000fffe000001 64\n20010db8000000010000000000000005 64\nevents 3\n0 up\n0 poll\n1 start 20010db8000000010000000000000007\n";
+    let mut cases: Vec<(String, Vec<u8>)> = Vec::new();
+    let mut case = |name: &str, text: String| cases.push((format!("format: {name}"), text.into_bytes()));
+    // One line of the good file (from 1) replaced; none stands for left out.
+    let with = |n: usize, line: Option<&str>| -> String {
+        let mut lines: Vec<&str> = good.lines().collect();
+        match line {
+            Some(line) => lines[n - 1] = line,
+            None => {
+                lines.remove(n - 1);
+            }
+        }
+        lines.join("\n") + "\n"
+    };
+    // The good file with one more event.
+    let event = |line: &str| good.replace("events 3", "events 4") + line + "\n";
+    // The good file with these addresses.
+    let addresses = |lines: &[String]| {
+        format!(
+            "mac 020000000001\naddresses {}\n{}\nevents 1\n0 up\n",
+            lines.len(),
+            lines.join("\n")
+        )
+    };
+
+    case("good", good.into());
+    case("good, the last line without its newline", good.trim_end().into());
+    case("empty input", String::new());
+    case("a newline only", "\n".into());
+    case("a carriage return in front of each newline", good.replace('\n', "\r\n"));
+    case("an empty line at the end", good.to_string() + "\n");
+    case("a space as last line", good.to_string() + " ");
+    case("a surplus event", good.to_string() + "2 poll\n");
+    case("two surplus lines", good.to_string() + "2 poll\n2 poll\n");
+    case("a surplus line that is too long", good.to_string() + &"0".repeat(5000) + "\n");
+    case("the first line only", "mac 020000000001\n".into());
+    case("the first line only, without newline", "mac 020000000001".into());
+    case("two lines only", "mac 020000000001\naddresses 0\n".into());
+    case("no events and no end", "mac 020000000001\naddresses 0\nevents 0".into());
+    case("no events", "mac 020000000001\naddresses 0\nevents 0\n".into());
+    case("no events, but a line", "mac 020000000001\naddresses 0\nevents 0\n0 up\n".into());
+    for n in 1..=8 {
+        case(&format!("line {n} left out"), with(n, None));
+        case(&format!("line {n} empty"), with(n, Some("")));
+        let line = good.lines().nth(n - 1).unwrap().to_string();
+        case(&format!("line {n} with a carriage return"), with(n, Some(&format!("{line}\r"))));
+        case(&format!("line {n} with a space in front"), with(n, Some(&format!(" {line}"))));
+        case(&format!("line {n} with a space at the end"), with(n, Some(&format!("{line} "))));
+        case(&format!("line {n} with two spaces"), with(n, Some(&line.replacen(' ', "  ", 1))));
+        case(&format!("line {n} with a tab"), with(n, Some(&line.replacen(' ', "\t", 1))));
+        case(&format!("line {n} with a field more"), with(n, Some(&format!("{line} 0"))));
+    }
+    for line in ["mac", "mac 02000000000", "mac 0200000000011", "mac 02000000000g", "MAC 020000000001", "mac 02:00:00:00:00:01", "020000000001"] {
+        case(&format!("first line `{line}`"), with(1, Some(line)));
+    }
+    case("mac in upper case", with(1, Some("mac 0200000000AB")));
+    case("a group mac", with(1, Some("mac 010000000001")));
+    for n in ["0", "1", "3", "02", "000000000000000000000000000002", "18446744073709551615", "18446744073709551616", "36893488147419103234", "-2", "+2", "2.", "x", "0x2", "2 "] {
+        case(&format!("addresses {n}"), with(2, Some(&format!("addresses {n}"))));
+        case(&format!("events {n}"), with(5, Some(&format!("events {n}"))));
+    }
+    case("address instead of addresses", with(2, Some("address 2")));
+    case("event instead of events", with(5, Some("event 3")));
+    for line in [
+        "fe80000000000000000000fffe000001",
+        "fe80000000000000000000fffe000001 129",
+        "fe80000000000000000000fffe000001 128",
+        "fe80000000000000000000fffe000001 0",
+        "fe80000000000000000000fffe000001 00064",
+        "fe80000000000000000000fffe000001 256",
+        "fe80000000000000000000fffe000001 18446744073709551615",
+        "fe80000000000000000000fffe000001 18446744073709551616",
+        "fe80000000000000000000fffe000001 -1",
+        "fe80000000000000000000fffe00001 64",
+        "fe80000000000000000000fffe0000001 64",
+        "fe80000000000000000000fffe00000g 64",
+        "FE80000000000000000000FFFE000001 64",
+        "fe80::1 64",
+        "20010db8000000010000000000000005 64",
+        "20010db8000000010000000000000005 63",
+        "00000000000000000000000000000000 64",
+        "ff020000000000000000000000000001 64",
+    ] {
+        case(&format!("first address `{line}`"), with(3, Some(line)));
+    }
+    let many: Vec<String> = (0..10).map(|i| format!("20010db80000000000000000000000{i:02x} 64")).collect();
+    case("eight addresses", addresses(&many[..8]));
+    case("nine addresses: number 8", addresses(&many[..9]));
+    case("ten addresses: number 8 at the ninth", addresses(&many));
+    let mut again = many[..8].to_vec();
+    again.push(again[3].clone());
+    case("eight addresses and one of them again: number 9", addresses(&again));
+    let mut long = many[..8].to_vec();
+    long.push("20010db8000000000000000000000020 129".into());
+    case("eight addresses and a ninth with 129: number 14", addresses(&long));
+    case("addresses 9 with eight lines", addresses(&many[..8]).replace("addresses 8", "addresses 9"));
+    for line in [
+        "0",
+        "0 ",
+        "poll",
+        "x poll",
+        "-1 poll",
+        "+1 poll",
+        "1.5 poll",
+        "0x1 poll",
+        "007 poll",
+        "18446744073709551615 poll",
+        "18446744073709551616 poll",
+        "4611686018427387904 poll",
+        "4611686018427387905 poll",
+        "4611686018427387905 sweep",
+        "4611686018427387905 fill 20010db8000000010000000000000007 020000000001",
+        "4611686018427387905 ra fe800000000000000000000000000001 86",
+        "18446744073709551615 up",
+        "18446744073709551615 down",
+        "18446744073709551615 off",
+        "18446744073709551615 start 20010db8000000010000000000000008",
+        "18446744073709551615 remove 20010db8000000010000000000000007",
+        "0 POLL",
+        "0 polls",
+        "0 up 0",
+        "0 down 0",
+        "0 poll 0",
+        "0 sweep 0",
+        "0 off 0",
+        "0 ra",
+        "0 ra fe800000000000000000000000000001",
+        "0 ra fe800000000000000000000000000001 ",
+        "0 ra fe800000000000000000000000000001 8",
+        "0 ra fe800000000000000000000000000001 860",
+        "0 ra fe800000000000000000000000000001 8g",
+        "0 ra fe800000000000000000000000000001 86 00",
+        "0 ra fe80000000000000000000000000001 86",
+        "0 ra fe8000000000000000000000000000001 86",
+        "0 start",
+        "0 start 1",
+        "0 start 20010db800000001000000000000000g",
+        "0 start 20010DB800000001000000000000000A",
+        "0 start 20010db8000000010000000000000007 0",
+        "0 remove",
+        "0 remove 20010db800000001000000000000007",
+        "0 fill 20010db8000000010000000000000007",
+        "0 fill 20010db8000000010000000000000007 02000000000",
+        "0 fill 20010db8000000010000000000000007 0200000000010",
+        "0 fill 20010db8000000010000000000000007 02000000000g",
+        "0 fill 20010DB8000000010000000000000007 0200000000AB",
+        "0 fill 20010db8000000010000000000000007 020000000001 0",
+    ] {
+        case(&format!("event `{line}`"), event(line));
+    }
+    for length in [4095, 4096, 4097] {
+        let zeros = "0".repeat(length - 7);
+        case(&format!("an event of {length} bytes, by leading zeros"), event(&format!("{zeros}77 poll")));
+    }
+    for length in [4095, 4096, 4097, 4098] {
+        let zeros = "0".repeat(length - "addresses 2".len());
+        case(&format!("an addresses line of {length} bytes"), with(2, Some(&format!("addresses {zeros}2"))));
+    }
+    for (length, head) in [(4096, "7 ra "), (4097, "77 ra "), (4098, "7 ra ")] {
+        let head = format!("{head}fe800000000000000000000000000001 ");
+        let mut message = "86000000000007080000000000000000".to_string();
+        while head.len() + message.len() + 16 <= length {
+            message += "0501000000000500";
+        }
+        while head.len() + message.len() + 2 <= length {
+            message += "00";
+        }
+        let line = head + &message;
+        assert_eq!(line.len() / 2, length / 2);
+        case(&format!("a message line of {} bytes", line.len()), event(&line));
+    }
+    let mut odd = good.as_bytes().to_vec();
+    odd[4] = 0xff;
+    cases.push(("format: a byte that is no text".into(), odd));
+    let mut odd = good.as_bytes().to_vec();
+    odd[4] = 0;
+    cases.push(("format: a zero byte".into(), odd));
+    cases
+}
+
+fn fired(input: &[u8]) -> Vec<usize> {
+    model::marks::take();
+    model::script::run(input);
+    let fired = model::marks::take();
+    (0..fired.len()).filter(|i| fired[*i] > 0).collect()
+}
+
+struct Record {
+    folder: PathBuf,
+    seen: HashSet<Vec<u8>>,
+    number: usize,
+    reached: HashSet<usize>,
+    bytes: usize,
+}
+
+impl Record {
+    fn put(&mut self, name: &str, input: &[u8]) {
+        let outcome = events::run(input);
+        if outcome.outside.is_some() || !self.seen.insert(input.to_vec()) {
+            return;
+        }
+        self.number += 1;
+        let path = |end: &str| self.folder.join(format!("{}.{end}", self.number));
+        fs::write(path("in"), input).unwrap();
+        fs::write(path("out"), &outcome.output).unwrap();
+        self.bytes += input.len() + outcome.output.len();
+        self.reached.extend(fired(input));
+        println!("{} {name}", self.number);
+        if outcome.output != model::script::run(input) {
+            eprintln!("{}: the model differs", self.number);
+            exit(1)
+        }
+    }
+}
+
+fn main() {
+    xarxa::world::quiet_expected_panics();
+    let (mut folder, mut seed, mut candidates) = (None, 1u64, 60_000u64);
+    let mut args = std::env::args().skip(1);
+    while let Some(arg) = args.next() {
+        let mut number = || args.next().and_then(|a| a.parse().ok());
+        let known = match arg.as_str() {
+            "-s" => number().map(|n| seed = n),
+            "-n" => number().map(|n| candidates = n),
+            a if a.starts_with('-') => None,
+            a => {
+                folder = Some(PathBuf::from(a));
+                Some(())
+            }
+        };
+        if known.is_none() {
+            eprintln!("{USAGE}");
+            exit(2)
+        }
+    }
+    let Some(folder) = folder else {
+        eprintln!("{USAGE}");
+        exit(2)
+    };
+    if Path::new(&folder).read_dir().is_ok_and(|mut d| d.next().is_some()) {
+        eprintln!("{} is not empty", folder.display());
+        exit(2)
+    }
+    fs::create_dir_all(&folder).unwrap();
+    let mut record = Record {
+        folder,
+        seen: HashSet::new(),
+        number: 0,
+        reached: HashSet::new(),
+        bytes: 0,
+    };
+    for (name, text) in WRITTEN {
+        record.put(name, text.as_bytes());
+    }
+
+    // For each rule the smallest file that fires it, made smaller; one that another's file holds already stays.
+    let names = model::marks::names();
+    let mut smallest: Vec<Option<Vec<u8>>> = vec![None; names.len()];
+    for n in 0..candidates {
+        let input = generate::file(seed, n, false);
+        if events::run(&input).outside.is_some() {
+            continue;
+        }
+        for rule in fired(&input) {
+            if smallest[rule].as_ref().is_none_or(|s| input.len() < s.len()) {
+                smallest[rule] = Some(input.clone());
+            }
+        }
+    }
+    for (rule, input) in smallest.into_iter().enumerate() {
+        if names[rule].starts_with("calls.") {
+            continue;
+        }
+        let Some(input) = input else {
+            eprintln!("no file fires {}", names[rule]);
+            continue;
+        };
+        let small = shrink::shrink(&input, |i| fired(i).contains(&rule) && events::run(i).outside.is_none());
+        record.put(names[rule], &small);
+    }
+
+    for (name, input) in format_cases() {
+        record.put(&name, &input);
+    }
+    // Some whole files, for what rules do together.
+    let mut whole = 0;
+    for n in candidates.. {
+        let input = generate::file(seed, n, false);
+        if input.len() < 12_000 && input.iter().filter(|b| **b == b'\n').count() > 12 {
+            record.put("by chance", &input);
+            whole += 1;
+        }
+        if whole == 60 {
+            break;
+        }
+    }
+    let total: Vec<usize> = (0..names.len()).filter(|i| !names[*i].starts_with("calls.")).collect();
+    let reached = total.iter().filter(|i| record.reached.contains(i)).count();
+    eprintln!(
+        "{} cases, {} bytes; rules reached: {reached} of {}",
+        record.number,
+        record.bytes,
+        total.len()
+    );
+}
