@@ -17,8 +17,9 @@ use Rattle.wire.specs.Refusals.{firstRefusal, tooLate, noSuchIface}
 use Rattle.neighbor.specs.declared.State.{State}
 use Rattle.neighbor.specs.NeighborRules.{Table, Key, sameKey, insertState, removeKey, onIface, clearIface, entriesOf}
 use Rattle.neighbor.specs.CacheCalls.{keyCheck, fillCheck, ifaceCheck}
+use Rattle.neighbor.specs.Distinct.{Distinct}
 use Rattle.claims.specs.Calls.{silence, address, Call, lookup, start, fill, insert, get, at, remove, clear, sweep, advertise, turnOff, check, Effect, nothing, puts, removes, clears, sweeps, meant, effectBy, effect, does, next, reply, answerBy, answer, answers, tableAfter}
-use Rattle.claims.specs.Watch.{reportsIn, reportsAll, gone, watchOfState, watchOf, watchEffect, toldEffect, watchCall, toldBy, watchAll, toldAll, ownsEffect, owns, isSweepEffect, isSweep, putsOtherEffect, held, evicts, Kept, toldRun, isFilled, anyFilled, Distinct}
+use Rattle.claims.specs.Watch.{reportsIn, reportsAll, gone, watchOfState, watchOf, watchEffect, toldEffect, watchCall, toldBy, watchAll, toldAll, ownsEffect, owns, isSweepEffect, isSweep, putsOtherEffect, held, evicts, Kept, toldRun, isFilled, anyFilled}
 use Rattle.claims.proofs.Base.{sameKey-true}
 use Rattle.claims.proofs.Put.{Evicted, put-own, put-other, remove-own, remove-other, clear-own, clear-other, put-length, remove-length, kept-length}
 use Rattle.claims.proofs.Sweep.{sweep-entries, sweep-tells, watch-sweeps, told-sweeps, sweep-few, sweep-length}

@@ -14,10 +14,11 @@ use Rattle.wire.specs.declared.error.Check.the-variants.{Fine}
 use Rattle.neighbor.specs.declared.State.{State}
 use Rattle.neighbor.specs.declared.State.the-variants.{Started, Incomplete}
 use Rattle.neighbor.specs.NeighborRules.{Table, Key, sameKey, entriesOf}
+use Rattle.neighbor.specs.Distinct.{Distinct}
 use Rattle.sweep.specs.SweepRules.{expireState}
 use Rattle.claims.specs.Calls.{Call, start, sweep, check, Effect, nothing, puts, removes, clears, sweeps, meant, effectBy, effect, does, next, reply, tableAfter}
 use Rattle.claims.specs.Demand3.{After, counting, joined, left, Alone, Sweeping, Demand3}
-use Rattle.claims.specs.Watch.{later, Report, retransmission, failure, reportsIn, Watch, waiting, dueAt, filled, gone, watchOf, watchSweep, told, watchEffect, toldEffect, watchCall, toldBy, watchAll, toldAll, ownsEffect, owns, isSweepEffect, isSweep, putsOtherEffect, evicts, Kept, Distinct}
+use Rattle.claims.specs.Watch.{later, Report, retransmission, failure, reportsIn, Watch, waiting, dueAt, filled, gone, watchOf, watchSweep, told, watchEffect, toldEffect, watchCall, toldBy, watchAll, toldAll, ownsEffect, owns, isSweepEffect, isSweep, putsOtherEffect, evicts, Kept}
 use Rattle.claims.proofs.Calls.{InTime, called-in-time, distinct-next, fits-next, others-keep, evicted-only, call-told, trace-told, trace-watch, trace-run}
 use Rattle.claims.proofs.Put.{put-own}
 use Rattle.claims.proofs.Sweep.{sweep-entries, sweep-tells, ample, not-yet}

@@ -5,3 +5,6 @@ pub mod Sweep
 pub mod Put
 pub mod Calls
 pub mod Demand3
+pub mod Traces
+pub mod Caches
+pub mod Clocks

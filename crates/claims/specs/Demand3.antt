@@ -11,8 +11,9 @@ use Rattle.wire.specs.declared.error.Check.the-variants.{Fine, Refused as Fails
 use Rattle.neighbor.specs.declared.State.{State}
 use Rattle.neighbor.specs.declared.State.the-variants.{Started, Incomplete}
 use Rattle.neighbor.specs.NeighborRules.{Table, Key, entriesOf}
+use Rattle.neighbor.specs.Distinct.{Distinct}
 use Rattle.claims.specs.Calls.{Call, start, sweep, check, next, answer, refused, answers, tableAfter}
-use Rattle.claims.specs.Watch.{later, Report, retransmission, failure, Watch, waiting, dueAt, filled, gone, watchOf, watchAll, toldAll, toldRun, reportsIn, reportsAll, Distinct, evicts, Kept, owns, isSweep, isFilled, anyFilled}
+use Rattle.claims.specs.Watch.{later, Report, retransmission, failure, Watch, waiting, dueAt, filled, gone, watchOf, watchAll, toldAll, toldRun, reportsIn, reportsAll, evicts, Kept, owns, isSweep, isFilled, anyFilled}
 
 -- a call's outcome for k: what it reports of k, and the states of k's entries after it
 pub record After (k : Key) (c : Call) (t : Table) (rs : List Report) (ss : List State) : Type 0 where

@@ -1,3 +1,6 @@
 pub mod Calls
 pub mod Watch
 pub mod Demand3
+pub mod Traces
+pub mod Caches
+pub mod Clocks

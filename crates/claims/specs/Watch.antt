@@ -1,11 +1,9 @@
 -- What demand 3 says of one key: an automaton that sees the sweeps and what is done to the key itself, and nothing else. Assumes nothing.
-use Prim.Native.Nat.{ℕ, _+_, _≤_}
+use Prim.Native.Nat.{ℕ, _+_}
 use mathlib.Core.Bool.{Bool, true, false, cond, not, _&&_, _||_}
 use mathlib.Core.List.{List, [], _∷_, _++_}
-use lib.ListN.{length}
 use lib.Dec.{T, leb, eqb}
 use Rattle.time.specs.declared.Instant.{Instant}
-use Rattle.wire.specs.declared.ipv6.Ipv6Addr.{Ipv6Addr}
 use Rattle.neighbor.specs.declared.State.{State}
 use Rattle.neighbor.specs.declared.State.the-variants.{Started, Incomplete, Reachable, Stale}
 use Rattle.neighbor.specs.NeighborRules.{Table, Key, sameKey, entriesOf}
@@ -167,7 +165,3 @@ isFilled (Stale h) = true
 abbrev pub anyFilled : Table → Bool
 anyFilled [] = false
 anyFilled (e ∷ t) = isFilled (e .state) || anyFilled t
-
--- "Keys are (interface, address), never twice."
-pub record Distinct (t : Table) : Type 0 where
-  pub once : (k : Key) → length (entriesOf k t) ≤ 1

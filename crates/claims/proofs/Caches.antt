@@ -1,0 +1,248 @@
+-- A run of calls on caches is a run on entries. Assumes nothing.
+use Prim.Native.Nat.{ℕ, zero, suc, _≤_}
+use native.Mathlib.Omega.{arith}
+use mathlib.Core.Path.{_≡_, refl, sym, ap, _∙_, subst}
+use mathlib.Core.Bool.{Bool, true, false, cond}
+use mathlib.Core.List.{List, [], _∷_, _++_, map}
+use lib.ListN.{length, take, drop, getD, set, replicate, length-map}
+use lib.Seq.{take-at}
+use lib.Dec.{ltb}
+use borrow.Author.Tests.{ltb-false}
+use Rattle.table.specs.Table.{filled, firstFrom, swapRemove, firstOf}
+use Rattle.time.specs.declared.Instant.{Instant}
+use Rattle.time.specs.declared.Clock.{Clock}
+use Rattle.wire.specs.declared.error.Check.{Check}
+use Rattle.wire.specs.declared.error.Check.the-variants.{Fine, Refused as Fails}
+use Rattle.neighbor.specs.declared.Entry.{Entry}
+use Rattle.neighbor.specs.declared.NeighborCache.{NeighborCache}
+use Rattle.neighbor.specs.declared.Answer.{Answer as Found}
+use Rattle.neighbor.specs.declared.Answer.the-variants.{Refused as Denied, Found as Known, Pending, NotFound}
+use Rattle.neighbor.specs.declared.Got.{Got}
+use Rattle.neighbor.specs.declared.Got.the-variants.{Refused as Rejected, Nothing, Is}
+use Rattle.neighbor.specs.declared.Changed.{Changed}
+use Rattle.neighbor.specs.declared.Removed.{Removed}
+use Rattle.neighbor.specs.declared.State.{State}
+use Rattle.neighbor.specs.declared.State.the-variants.{Started, Incomplete, Reachable, Stale}
+use Rattle.neighbor.specs.Answers.{answerOf}
+use Rattle.neighbor.specs.NeighborRules.{Table, Key, isKey, find, removeKey}
+use Rattle.neighbor.specs.CacheCalls.{key, entries, withEntries, changeBy, ChangedTo, lookupBy, getBy, removeBy, keyCheck, fillCheck, ifaceCheck, answerIn, shown, blank, atIndex}
+use Rattle.sweep.specs.declared.ProbeEvent.{ProbeEvent}
+use Rattle.sweep.specs.declared.ProbeEvent.the-variants.{Retransmit, Failed}
+use Rattle.sweep.specs.SweepRules.{Probe, Events, andThen, due, spent, probed, probe, probeAt, eventsFrom, expire, expireAll, sweepTable}
+use Rattle.sweep.specs.SweepRules.{nothing as no-probe, happens as probes}
+use Rattle.sweep.specs.SweepCalls.{ProbeIn, nothing, happens, probeIn, probeInAt, EventsIn, andThenIn, eventsIn, slotOf, blankEvent, eventsTable, probeAll, sweptIn, sweepBy, sweepCheck}
+use Rattle.claims.specs.Calls.{Call, lookup, start, fill, insert, get, at, remove, clear, sweep, check, meant, does, next, Answer, refused, done, looked, got, swept, answer, answerBy, effectBy, answers, tableAfter, reply}
+use Rattle.neighbor.specs.Distinct.{Distinct}
+use Rattle.claims.specs.Watch.{reportsAll}
+use Rattle.claims.specs.Demand3.{Demand3}
+use Rattle.claims.proofs.Demand3.{demand3}
+use Rattle.claims.specs.Caches.{ofLookup, ofGot, ofOutcome, ofSweep, eventOf, eventList, Step, looks-up, starts, fills, inserts, gets, lists, removes, clears, sweeps, Run, none, one-more, OnCaches}
+
+-- the entries of a cache that was given entries are those
+entries-with : (c : NeighborCache) (xs : Table) → entries (withEntries c xs) ≡ xs
+entries-with c xs = take-at xs (drop (length xs) (c .slots)) (length xs) refl
+
+-- a call that changes the entries
+changes : (x : Check) (call : Call) (c : NeighborCache) (xs : Table) → does (meant call) (entries c) ≡ xs → reply call (entries c) ≡ done
+    → (ofOutcome (changeBy x c xs .outcome) ≡ answerBy x call (entries c)) × (entries (changeBy x c xs .cache) ≡ does (effectBy x call) (entries c))
+changes (Fails why) call c xs h g = (refl, refl)
+changes Fine call c xs h g = (sym g, entries-with c xs ∙ sym h)
+
+-- a call that does nothing to the entries
+quiet : (x : Check) (call : Call) (c : NeighborCache) → does (meant call) (entries c) ≡ entries c → entries c ≡ does (effectBy x call) (entries c)
+quiet (Fails why) call c h = refl
+quiet Fine call c h = sym h
+
+-- a lookup's and a listing's answer stand for themselves
+same-lookup : (k : Key) (t : Table) → ofLookup (firstOf (isKey k) answerIn NotFound t) ≡ looked (firstOf (isKey k) answerIn NotFound t)
+same-lookup k [] = refl
+same-lookup k (e ∷ t) = go (isKey k e) (same-lookup k t)
+  where
+    by : (s : State) → ofLookup (answerOf s) ≡ looked (answerOf s)
+    by Started = refl
+    by (Incomplete p d) = refl
+    by (Reachable h x) = refl
+    by (Stale h) = refl
+
+    go : (x : Bool) → ofLookup (firstOf (isKey k) answerIn NotFound t) ≡ looked (firstOf (isKey k) answerIn NotFound t)
+        → ofLookup (cond x (answerIn e) (firstOf (isKey k) answerIn NotFound t)) ≡ looked (cond x (answerIn e) (firstOf (isKey k) answerIn NotFound t))
+    go true h = by (e .state)
+    go false h = h
+
+looking : (x : Check) (c : NeighborCache) (k : Key) → ofLookup (lookupBy x c k) ≡ answerBy x (lookup k) (entries c)
+looking (Fails why) c k = refl
+looking Fine c k = same-lookup k (entries c)
+
+same-got : (k : Key) (t : Table) → ofGot (firstOf (isKey k) shown Nothing t) ≡ got (firstOf (isKey k) shown Nothing t)
+same-got k [] = refl
+same-got k (e ∷ t) = go (isKey k e) (same-got k t)
+  where
+    go : (x : Bool) → ofGot (firstOf (isKey k) shown Nothing t) ≡ got (firstOf (isKey k) shown Nothing t)
+        → ofGot (cond x (shown e) (firstOf (isKey k) shown Nothing t)) ≡ got (cond x (shown e) (firstOf (isKey k) shown Nothing t))
+    go true h = refl
+    go false h = h
+
+getting : (x : Check) (c : NeighborCache) (k : Key) → ofGot (getBy x c k) ≡ answerBy x (get k) (entries c)
+getting (Fails why) c k = refl
+getting Fine c k = same-got k (entries c)
+
+listing : (x : Bool) (e : Entry) → ofGot (cond x (shown e) Nothing) ≡ got (cond x (shown e) Nothing)
+listing true e = refl
+listing false e = refl
+
+-- removing an absent key
+swap-past : {A : Type 0} (i : ℕ) (t : List A) → length t ≤ i → swapRemove i t ≡ t
+swap-past i [] h = refl
+swap-past zero (e ∷ t) h = absurd (omega arith)
+swap-past (suc i) (e ∷ t) h = rw (swap-past i t (omega arith))
+
+stays-put : (k : Key) (t : Table) → ltb (find k t) (length t) ≡ false → t ≡ removeKey k t
+unfolding removeKey
+stays-put k t h = sym (swap-past (find k t) t (ltb-false _ _ h))
+
+removing : (x : Check) (c : NeighborCache) (k : Key)
+    → (ofGot (removeBy x c k .taken) ≡ answerBy x (remove k) (entries c)) × (entries (removeBy x c k .cache) ≡ does (effectBy x (remove k)) (entries c))
+removing (Fails why) c k = (refl, refl)
+removing Fine c k = go (ltb (find k (entries c)) (length (entries c))) refl
+  where
+    e : Entry
+    e = getD (entries c) (find k (entries c)) blank
+
+    outcome : Bool → Removed
+    outcome y = cond y (record { cache = withEntries c (removeKey k (entries c)); taken = shown e }) (record { cache = c; taken = Nothing })
+
+    go : (y : Bool) → ltb (find k (entries c)) (length (entries c)) ≡ y
+        → (ofGot (outcome y .taken) ≡ got (cond y (shown e) Nothing)) × (entries (outcome y .cache) ≡ removeKey k (entries c))
+    go true h = (refl, entries-with c (removeKey k (entries c)))
+    go false h = (refl, stays-put k (entries c) h)
+
+-- the events of a sweep of a cache are those of its entries
+pub record Alike (r : EventsIn) (s : Events) : Type 0 where
+  pub events : r .events ≡ s .events
+  pub table : entries (r .cache) ≡ s .table
+
+-- one event, and the rest of them
+goes-onIn : ℕ → ℕ → Instant → NeighborCache → ProbeIn → EventsIn
+goes-onIn n i now c p =
+    elim p [
+      | nothing ↦ record { events = []; cache = c }
+      | happens v c' place ↦ andThenIn v (eventsIn n i now c' place)
+    ]
+
+goes-on : ℕ → ℕ → Instant → Table → Probe → Events
+goes-on n i now t p =
+    elim p [
+      | no-probe ↦ record { events = []; table = t }
+      | probes v t' place ↦ andThen v (eventsFrom n i now t' place)
+    ]
+
+unfoldsIn : (n i : ℕ) (now : Instant) (c : NeighborCache) (place : ℕ) → eventsIn (suc n) i now c place ≡ goes-onIn n i now c (probeIn i now c place)
+unfolding eventsIn goes-onIn
+unfoldsIn n i now c place = refl
+
+unfolds : (n i : ℕ) (now : Instant) (t : Table) (place : ℕ) → eventsFrom (suc n) i now t place ≡ goes-on n i now t (probe i now t place)
+unfolding eventsFrom goes-on
+unfolds n i now t place = refl
+
+then-alike : (v : ProbeEvent) (r : EventsIn) (s : Events) → Alike r s → Alike (andThenIn v r) (andThen v s)
+then-alike v r s h = record { events = ap {B = List ProbeEvent} (λ l. v ∷ l) (h .events); table = h .table }
+
+one-event : (n i : ℕ) (now : Instant) (c : NeighborCache) (j : ℕ) (l : Table)
+    → ((d : NeighborCache) (place : ℕ) → Alike (eventsIn n i now d place) (eventsFrom n i now (entries d) place))
+    → Alike (goes-onIn n i now c (probeInAt now j c l)) (goes-on n i now (entries c) (probeAt now j (entries c) l))
+unfolding goes-onIn goes-on
+one-event n i now c j [] rest = record { events = refl; table = refl }
+one-event n i now c j (e ∷ l) rest = go (spent e)
+  where
+    moved : (xs : Table) (place : ℕ) → Alike (eventsIn n i now (withEntries c xs) place) (eventsFrom n i now xs place)
+    moved xs place = subst (λ (t : Table). Alike (eventsIn n i now (withEntries c xs) place) (eventsFrom n i now t place)) (entries-with c xs) (rest (withEntries c xs) place)
+
+    go : (x : Bool)
+        → Alike
+        (goes-onIn n i now c (cond x (happens (Failed (e .addr)) (withEntries c (swapRemove j (entries c))) j) (happens (Retransmit (e .addr)) (withEntries c (set (entries c) j (probed now e))) (suc j))))
+        (goes-on n i now (entries c) (cond x (probes (Failed (e .addr)) (swapRemove j (entries c)) j) (probes (Retransmit (e .addr)) (set (entries c) j (probed now e)) (suc j))))
+    go true = then-alike _ _ _ (moved (swapRemove j (entries c)) j)
+    go false = then-alike _ _ _ (moved (set (entries c) j (probed now e)) (suc j))
+
+pub alike : (n i : ℕ) (now : Instant) (c : NeighborCache) (place : ℕ) → Alike (eventsIn n i now c place) (eventsFrom n i now (entries c) place)
+unfolding eventsIn eventsFrom probeIn probe
+alike zero i now c place = record { events = refl; table = refl }
+alike (suc n) i now c place =
+    rw (unfoldsIn n i now c place, unfolds n i now (entries c) place)
+    (one-event n i now c (firstFrom (due i now) place (entries c)) (drop (firstFrom (due i now) place (entries c)) (entries c)) (λ d place'. alike n i now d place'))
+
+alike-with : (n i : ℕ) (now : Instant) (c : NeighborCache) (xs : Table) (place : ℕ) → Alike (eventsIn n i now (withEntries c xs) place) (eventsFrom n i now xs place)
+alike-with n i now c xs place =
+    subst (λ (t : Table). Alike (eventsIn n i now (withEntries c xs) place) (eventsFrom n i now t place)) (entries-with c xs) (alike n i now (withEntries c xs) place)
+
+-- the events' table lists the events
+map-slots : (vs : List ProbeEvent) → map eventOf (map slotOf vs) ≡ vs
+map-slots [] = refl
+map-slots (v ∷ vs) = rw (map-slots vs)
+
+listed-events : (vs : List ProbeEvent) → eventList (eventsTable vs) ≡ vs
+unfolding eventsTable
+listed-events vs = ap (map eventOf) (take-at (map slotOf vs) _ (length vs) (length-map vs slotOf)) ∙ map-slots vs
+
+expired-length : (now : Instant) (t : Table) → length (expireAll now t) ≡ length t
+unfolding expireAll
+expired-length now t = length-map t (expire now)
+
+sweep-alike : (c : NeighborCache) (i : ℕ) (now : Instant) → Alike (probeAll i now (withEntries c (expireAll now (entries c)))) (sweepTable i now (entries c))
+unfolding probeAll sweepTable
+sweep-alike c i now =
+    subst (λ (n : ℕ). Alike (eventsIn n i now (withEntries c xs) 0) (eventsFrom (length (entries c)) i now xs 0)) (sym as-many)
+    (alike-with (length (entries c)) i now c xs 0)
+  where
+    xs : Table
+    xs = expireAll now (entries c)
+
+    as-many : length (entries (withEntries c xs)) ≡ length (entries c)
+    as-many = ap {B = ℕ} length (entries-with c xs) ∙ expired-length now (entries c)
+
+sweeping : (x : Check) (c : NeighborCache) (k : Clock) (i : ℕ)
+    → (ofSweep i (sweepBy x c k i .events) (sweepBy x c k i .outcome) ≡ answerBy x (sweep i (k .now)) (entries c))
+    × (entries (sweepBy x c k i .cache) ≡ does (effectBy x (sweep i (k .now))) (entries c))
+unfolding sweptIn
+sweeping (Fails why) c k i = (refl, refl)
+sweeping Fine c k i =
+    (ap (swept i) (listed-events _ ∙ sweep-alike c i (k .now) .events), sweep-alike c i (k .now) .table)
+
+-- Steps and runs
+
+abbrev Follows : NeighborCache → Call → Answer → NeighborCache → Type 0
+Follows c call a d = (a ≡ answer call (entries c)) × (entries d ≡ next call (entries c))
+
+changed : (x : Check) (call : Call) (c : NeighborCache) (r : Changed) → ChangedTo x c (does (meant call) (entries c)) r → reply call (entries c) ≡ done
+    → (ofOutcome (r .outcome) ≡ answerBy x call (entries c)) × (entries (r .cache) ≡ does (effectBy x call) (entries c))
+changed x call c r h g = rw (h .is) (changes x call c (does (meant call) (entries c)) refl g)
+
+pub follows : {c : NeighborCache} {call : Call} {a : Answer} {d : NeighborCache} → Step c call a d → Follows c call a d
+unfolding check
+follows (looks-up c i a r h) = (ap ofLookup (h .is) ∙ looking (keyCheck i a) c (key i a), quiet (keyCheck i a) (lookup (key i a)) c refl)
+follows (starts c i a r h) = changed (keyCheck i a) (start (key i a)) c r h refl
+follows (fills c i a hw now r h) = changed (fillCheck now i a hw) (fill (key i a) hw now) c r h refl
+follows (inserts c i a hw expires r h) = changed (fillCheck expires i a hw) (insert (key i a) hw expires) c r h refl
+follows (gets c i a r h) = (ap ofGot (h .is) ∙ getting (ifaceCheck i) c (key i a), quiet (ifaceCheck i) (get (key i a)) c refl)
+follows (lists c n r h) = (ap ofGot h ∙ listing (ltb n (length (entries c))) (getD (entries c) n blank), refl)
+follows (removes c i a r h) = rw (h .is) (removing (ifaceCheck i) c (key i a))
+follows (clears c i r h) = changed (ifaceCheck i) (clear i) c r h refl
+follows (sweeps c k i r h) = rw (h .is) (sweeping (sweepCheck k i) c k i)
+
+more : (c : NeighborCache) (call : Call) (a : Answer) (d : NeighborCache) (cs : List Call) (as′ : List Answer) (e : NeighborCache) → Follows c call a d
+    → (as′ ≡ answers cs (entries d)) × (entries e ≡ tableAfter cs (entries d))
+    → (a ∷ as′ ≡ answers (call ∷ cs) (entries c)) × (entries e ≡ tableAfter (call ∷ cs) (entries c))
+more c call a d cs as′ e h g = (cc (ap (answers cs) (h .1)), g .1 ∙ ap (tableAfter cs) (h .1))
+
+pub follows-all : {c : NeighborCache} {cs : List Call} {as′ : List Answer} {d : NeighborCache} → Run c cs as′ d
+    → (as′ ≡ answers cs (entries c)) × (entries d ≡ tableAfter cs (entries c))
+follows-all (none c) = (refl, refl)
+follows-all (one-more {c = c} {call = call} {a = a} {d = d} {cs = cs} {as′ = as′} {e = e} s r) = more c call a d cs as′ e (follows s) (follows-all r)
+
+pub on-caches : OnCaches
+on-caches = record {
+  step = λ c call a d h. follows h;
+  run = λ c cs as′ d h. follows-all h;
+  keys = λ cs as′ c h. subst (λ (t : Table). Distinct t × (length t ≤ 16)) (sym (follows-all h .1)) (demand3 .made cs);
+  reports = λ k cs as′ c h. ap (reportsAll k) (follows-all h .0) ∙ demand3 .run k cs [] (demand3 .made [] .0);
+}

@@ -1,0 +1,86 @@
+-- Runs of the code's own calls on caches are runs on entries: the promise of each function that is given the cache, call by call. Assumes nothing.
+use Prim.Native.Nat.{ℕ, _≤_}
+use mathlib.Core.Path.{_≡_}
+use mathlib.Core.Bool.{Bool}
+use mathlib.Core.List.{List, [], _∷_, map}
+use lib.ListN.{take, length}
+use Rattle.time.specs.declared.Instant.{Instant}
+use Rattle.time.specs.declared.Clock.{Clock}
+use Rattle.wire.specs.declared.ipv6.Ipv6Addr.{Ipv6Addr}
+use Rattle.wire.specs.declared.ethernet.HardwareAddress.{HardwareAddress}
+use Rattle.neighbor.specs.declared.NeighborCache.{NeighborCache}
+use Rattle.neighbor.specs.declared.Answer.{Answer as Found}
+use Rattle.neighbor.specs.declared.Answer.the-variants.{Refused as Denied, Found as Known, Pending, NotFound}
+use Rattle.neighbor.specs.declared.Got.{Got}
+use Rattle.neighbor.specs.declared.Got.the-variants.{Refused as Rejected, Nothing, Is}
+use Rattle.neighbor.specs.declared.Outcome.{Outcome}
+use Rattle.neighbor.specs.declared.Outcome.the-variants.{Refused, Done}
+use Rattle.neighbor.specs.declared.Changed.{Changed}
+use Rattle.neighbor.specs.declared.Removed.{Removed}
+use Rattle.neighbor.specs.NeighborRules.{Key}
+use Rattle.neighbor.specs.Distinct.{Distinct}
+use Rattle.neighbor.specs.CacheCalls.{key, empty, entries, LookedUp, GotBy, atIndex, RemovedTo, startTo, insertTo, fillTo, clearTo}
+use Rattle.sweep.specs.declared.ProbeEvent.{ProbeEvent}
+use Rattle.sweep.specs.declared.EventSlot.{EventSlot}
+use Rattle.sweep.specs.declared.Events.{Events}
+use Rattle.sweep.specs.declared.Swept.{Swept}
+use Rattle.sweep.specs.SweepCalls.{SweptTo}
+use Rattle.claims.specs.Calls.{Call, lookup, start, fill, insert, get, at, remove, clear, sweep, next, Answer, refused, done, looked, got, swept, answer, answers, tableAfter}
+use Rattle.claims.specs.Watch.{gone, reportsAll, toldRun}
+
+-- the functions' answers
+abbrev pub ofLookup : Found → Answer
+ofLookup (Denied why) = refused why
+ofLookup (Known h) = looked (Known h)
+ofLookup Pending = looked Pending
+ofLookup NotFound = looked NotFound
+
+abbrev pub ofGot : Got → Answer
+ofGot (Rejected why) = refused why
+ofGot Nothing = got Nothing
+ofGot (Is n) = got (Is n)
+
+abbrev pub ofOutcome : Outcome → Answer
+ofOutcome (Refused why) = refused why
+ofOutcome Done = done
+
+abbrev pub eventOf : EventSlot → ProbeEvent
+eventOf s = s .event
+
+abbrev pub eventList : Events → List ProbeEvent
+eventList v = map eventOf (take (v .len) (v .slots))
+
+abbrev pub ofSweep : ℕ → Events → Outcome → Answer
+ofSweep i v (Refused why) = refused why
+ofSweep i v Done = swept i (eventList v)
+
+-- one call on a cache that its function's promise allows, with its answer and the cache after it
+pub data Step : NeighborCache → Call → Answer → NeighborCache → Type 0 where
+  looks-up : (c : NeighborCache) (i : ℕ) (a : Ipv6Addr) (r : Found) → LookedUp c i a r → Step c (lookup (key i a)) (ofLookup r) c
+  starts : (c : NeighborCache) (i : ℕ) (a : Ipv6Addr) (r : Changed) → startTo c i a r → Step c (start (key i a)) (ofOutcome (r .outcome)) (r .cache)
+  fills : (c : NeighborCache) (i : ℕ) (a : Ipv6Addr) (h : HardwareAddress) (now : Instant) (r : Changed) → fillTo c i a h now r
+      → Step c (fill (key i a) h now) (ofOutcome (r .outcome)) (r .cache)
+  inserts : (c : NeighborCache) (i : ℕ) (a : Ipv6Addr) (h : HardwareAddress) (expires : Instant) (r : Changed) → insertTo c i a h expires r
+      → Step c (insert (key i a) h expires) (ofOutcome (r .outcome)) (r .cache)
+  gets : (c : NeighborCache) (i : ℕ) (a : Ipv6Addr) (r : Got) → GotBy c i a r → Step c (get (key i a)) (ofGot r) c
+  lists : (c : NeighborCache) (n : ℕ) (r : Got) → r ≡ atIndex c n → Step c (at n) (ofGot r) c
+  removes : (c : NeighborCache) (i : ℕ) (a : Ipv6Addr) (r : Removed) → RemovedTo c i a r → Step c (remove (key i a)) (ofGot (r .taken)) (r .cache)
+  clears : (c : NeighborCache) (i : ℕ) (r : Changed) → clearTo c i r → Step c (clear i) (ofOutcome (r .outcome)) (r .cache)
+  sweeps : (c : NeighborCache) (k : Clock) (i : ℕ) (r : Swept) → SweptTo c k i r → Step c (sweep i (k .now)) (ofSweep i (r .events) (r .outcome)) (r .cache)
+
+-- calls one after the other
+pub data Run : NeighborCache → List Call → List Answer → NeighborCache → Type 0 where
+  none : (c : NeighborCache) → Run c [] [] c
+  one-more : {c : NeighborCache} {call : Call} {a : Answer} {d : NeighborCache} {cs : List Call} {as′ : List Answer} {e : NeighborCache}
+      → Step c call a d → Run d cs as′ e → Run c (call ∷ cs) (a ∷ as′) e
+
+pub record OnCaches : Type 0 where
+  -- a call on a cache answers what the call on its entries answers, and leaves those entries; and so does a run
+  pub step : (c : NeighborCache) (call : Call) (a : Answer) (d : NeighborCache) → Step c call a d
+      → (a ≡ answer call (entries c)) × (entries d ≡ next call (entries c))
+  pub run : (c : NeighborCache) (cs : List Call) (as′ : List Answer) (d : NeighborCache) → Run c cs as′ d
+      → (as′ ≡ answers cs (entries c)) × (entries d ≡ tableAfter cs (entries c))
+  -- "Keys are (interface, address), never twice", in every cache that these calls made
+  pub keys : (cs : List Call) (as′ : List Answer) (c : NeighborCache) → Run empty cs as′ c → Distinct (entries c) × (length (entries c) ≤ 16)
+  -- what a run on caches that these calls made reports of a key is what the key's watch says
+  pub reports : (k : Key) (cs : List Call) (as′ : List Answer) (c : NeighborCache) → Run empty cs as′ c → reportsAll k as′ ≡ toldRun k cs [] gone
