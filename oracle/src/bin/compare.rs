@@ -8,7 +8,7 @@ use std::time::Instant;
 
 use oracle::{events, generate};
 
-const USAGE: &str = "compare [-n FILES] [-s SEED] [--first N] [--events PROGRAM] [--model] [--wide] [--keep FOLDER] [--all] [--calls] [FILE..]
+const USAGE: &str = "compare [-n FILES] [-s SEED] [--first N] [--events PROGRAM] [--model] [--wide] [--keep FOLDER] [--all] [--calls] [--recorded FOLDER] [FILE..]
 
   -n FILES          how many files (10000)
   -s SEED           of the generator (1)
@@ -19,11 +19,13 @@ const USAGE: &str = "compare [-n FILES] [-s SEED] [--first N] [--events PROGRAM]
   --keep FOLDER     where a file that differs is kept (oracle/kept)
   --all             go on after a difference, keeping each
   --calls           sequences of single calls, the Rust against the model, in place of event files
+  --recorded FOLDER the answers N.out of FOLDER against the program's (without one: the Rust's) on N.in
   FILE..            compare on these files instead of generated ones";
 
 /// The program on the other side.
 enum Other {
     Model,
+    Rust,
     Program(PathBuf, PathBuf),
 }
 
@@ -36,6 +38,7 @@ impl Other {
     fn run(&self, input: &[u8]) -> String {
         match self {
             Other::Model => model::script::run(input),
+            Other::Rust => events::run(input).output,
             Other::Program(path, scratch) => {
                 fs::write(scratch, input).unwrap();
                 let run = Command::new(path)
@@ -65,8 +68,13 @@ struct Compare {
 impl Compare {
     /// The two outputs, if both sides can be run on it.
     fn both(&self, input: &[u8]) -> Option<(String, String)> {
+        self.both_with(input, model::script::run(input))
+    }
+
+    /// The same, given what the model says.
+    fn both_with(&self, input: &[u8], modelled: String) -> Option<(String, String)> {
         let left = if self.wide {
-            model::script::run(input)
+            modelled.clone()
         } else {
             let outcome = events::run(input);
             if outcome.outside.is_some() {
@@ -74,7 +82,10 @@ impl Compare {
             }
             outcome.output
         };
-        Some((left, self.other.run(input)))
+        match self.other {
+            Other::Model => Some((left, modelled)),
+            _ => Some((left, self.other.run(input))),
+        }
     }
 
     fn differs(&self, input: &[u8]) -> bool {
@@ -125,6 +136,7 @@ fn main() {
     let (mut program, mut use_model, mut wide, mut all, mut calls) = (None, false, false, false, false);
     let mut keep = Path::new(env!("CARGO_MANIFEST_DIR")).join("kept");
     let mut files = Vec::new();
+    let mut recorded = None;
     let mut args = std::env::args().skip(1);
     while let Some(arg) = args.next() {
         let mut value = || args.next().unwrap_or_else(|| usage());
@@ -138,6 +150,7 @@ fn main() {
             "--wide" => wide = true,
             "--all" => all = true,
             "--calls" => calls = true,
+            "--recorded" => recorded = Some(PathBuf::from(value())),
             "--keep" => keep = PathBuf::from(value()),
             a if a.starts_with('-') => usage(),
             a => files.push(PathBuf::from(a)),
@@ -152,8 +165,12 @@ fn main() {
         _ if use_model => Other::Model,
         Some(path) => Other::Program(path, scratch.clone()),
         None if default.is_file() => Other::Program(default, scratch.clone()),
+        None if recorded.is_some() => Other::Rust,
         None => Other::Model,
     };
+    if let Some(folder) = recorded {
+        return compare_recorded(&folder, &other, all);
+    }
     let left = if wide { "the model" } else { "the Rust" };
     match &other {
         Other::Model if wide => {
@@ -161,6 +178,7 @@ fn main() {
             exit(2)
         }
         Other::Model => eprintln!("{left} against the model"),
+        Other::Rust => unreachable!("only with --recorded"),
         Other::Program(path, _) => eprintln!("{left} against {}", path.display()),
     }
 
@@ -181,12 +199,12 @@ fn main() {
         };
         // The model runs on each file, whatever the other side is: it marks the rules.
         model::marks::take();
-        model::script::run(&input);
+        let modelled = model::script::run(&input);
         for (sum, n) in fired.iter_mut().zip(model::marks::take()) {
             *sum += u64::from(n);
         }
         bytes += input.len() as u64;
-        match compare.both(&input) {
+        match compare.both_with(&input, modelled) {
             None => outside += 1,
             Some((l, r)) if l == r => done += 1,
             Some(_) => {
@@ -227,6 +245,32 @@ fn print_rules(fired: &[u64], calls: bool) {
     println!("rules reached: {} of {}", rules.iter().filter(|r| r.1 > 0).count(), rules.len());
     for (name, _) in rules.iter().filter(|r| r.1 == 0) {
         println!("  not reached: {name}");
+    }
+}
+
+/// The recorded answers against a program's.
+fn compare_recorded(folder: &Path, other: &Other, all: bool) {
+    let (mut equal, mut differ, mut n) = (0, 0, 1);
+    while let Ok(input) = fs::read(folder.join(format!("{n}.in"))) {
+        let left = fs::read_to_string(folder.join(format!("{n}.out"))).unwrap();
+        let right = other.run(&input);
+        if left == right {
+            equal += 1;
+        } else {
+            differ += 1;
+            if differ == 1 || all {
+                println!("{n}.in differs");
+                show(&left, &right, "recorded", "other");
+            }
+        }
+        n += 1;
+    }
+    println!("{equal} recorded cases equal, {differ} differ");
+    if let Other::Program(_, scratch) = other {
+        let _ = fs::remove_file(scratch);
+    }
+    if differ > 0 || equal == 0 {
+        exit(1)
     }
 }
 
