@@ -1,0 +1,3 @@
+pub mod LearnedLaws
+pub mod ExpiryLaws
+pub mod DiscoveryLaws

@@ -1,0 +1,13 @@
+use borrow.Author.Needs.{needs}
+use Rattle.learned.proofs.ExpiryLaws.{also}
+use Rattle.learned.proofs.ask_also.Statement.{statement}
+use Rattle.learned.proofs.ask_also.Tie as tie
+
+asked-requires : tie.Need-asked-requires
+asked-requires c κs = search needs
+
+returns : tie.Need-returns
+returns c = also (c .before .before .before .before .before .args .a) (c .before .before .before .before .before .args .t) _ (c .before .before .before .asked .ensures)
+
+pub ask-also-spec : {M : Type 1} → statement M
+ask-also-spec = tie.close (tie.spec asked-requires returns)

@@ -1,0 +1,4 @@
+pub mod LearnedRules
+pub mod ExpiryRules
+pub mod Answers
+pub mod DiscoveryRules
