@@ -1,2 +1,3 @@
 pub mod SweepRules
 pub mod SweepCalls
+pub mod SweepParts

@@ -508,3 +508,52 @@ module _ {A B : Type 0} (d : A) {size : ℕ} {step : B → A → B} {b₀ : B} {
       let l : length (take n s) ≤ i = omega (arith, inv .count) in
       let a : foldOver step b (drop i (take n s)) ≡ b = simp (drop-of-length-le (take n s) l) in
       sym a ∙ inv .same
+
+-- The loop that changes each entry in place
+pub record Mapping {A : Type 0} (size : ℕ) (f : A → A) (s₀ : List A) (n k : ℕ) (s : List A) (i : ℕ) : Type 0 where
+  pub low : i ≤ k
+  pub most : k ≤ size
+  pub full : length s ≡ size
+  pub count : k ≡ length (take n s₀)
+  pub done : take i s ++ map f (drop i (take n s₀)) ≡ map f (take n s₀)
+  pub rest : drop i s ≡ drop i s₀
+
+pub mapping : {A : Type 0} (size : ℕ) (f : A → A) (s : List A) (n k : ℕ) → length s ≡ size → k ≡ min n size → Mapping size f s n k s 0
+mapping size f s n k full e =
+    record { low = omega arith; most = omega arith; full = full; count = counted s n size k full e; done = refl; rest = refl }
+
+module _ {A : Type 0} (d : A) {size : ℕ} {f : A → A} {s₀ : List A} {n k : ℕ} {s : List A} {i : ℕ} (inv : Mapping size f s₀ n k s i) where
+  -- the entry that is read is the old one
+  pub map-reads : getD s i d ≡ getD s₀ i d
+  map-reads = agree s s₀ i i d (omega arith) (inv .rest)
+
+  pub map-next : (y : A) → i < k → y ≡ f (getD s i d) → Mapping size f s₀ n k (set s i y) (i + 1)
+  map-next y h e =
+      let tail : List A = map f (drop (i + 1) (take n s₀)) in
+      let li : i < length s = omega (arith, inv .full, inv .most) in
+      let l : drop i (take n s₀) ≡ getD s i d ∷ drop (i + 1) (take n s₀) =
+      entries-from d s₀ n i (omega (arith, inv .count)) ∙ ap (λ (x : A). x ∷ drop (i + 1) (take n s₀)) (sym map-reads) in
+      let m : map f (drop i (take n s₀)) ≡ y ∷ tail = ap (map f) l ∙ ap (λ (x : A). x ∷ tail) (sym e) in
+      record {
+        low = omega arith;
+        most = inv .most;
+        full = length-set s i y ∙ inv .full;
+        count = inv .count;
+        done =
+            ap (λ (l : List A). l ++ tail) (one-more s i y li)
+            ∙ (append-assoc (take i s) (y ∷ []) tail ∙ (ap (λ (l : List A). take i s ++ l) (sym m) ∙ inv .done));
+        rest = drop-set-lt (i + 1) s i y (omega arith) ∙ agree-from s s₀ i (inv .rest);
+      }
+
+  -- an entry that stays is not stored
+  pub map-stays : i < k → getD s i d ≡ f (getD s i d) → Mapping size f s₀ n k s (i + 1)
+  map-stays h e = rw (set-getD s i d) at (map-next (getD s i d) h e)
+
+  pub mapped-all : k ≤ i → Made s₀ (map f (take n s₀)) s k
+  mapped-all h =
+      let es : List A = take n s₀ in
+      let e : i ≡ k = omega (arith, inv .low) in
+      let l : length es ≤ i = omega (arith, inv .count) in
+      let p : take i s ≡ map f es = sym (append-nil (take i s)) ∙ (simp (drop-of-length-le es l) at (inv .done)) in
+      let c : length (map f es) ≡ i = length-map es f ∙ omega (arith, inv .count) in
+      record { slots = made s₀ s (map f es) i c p (inv .rest); count = sym (c ∙ e) }
