@@ -1,0 +1,3 @@
+pub mod ExpiryLaws
+pub mod ProbeLaws
+pub mod SweepLaws
