@@ -42,12 +42,12 @@ module _ (s : State) (k : Clock) where
       }
 
   pub waits : (n : ℕ) (t : Instant) (a : Answer) → s ≡ Incomplete n t → a ≡ askedOf k t
-      → ExpiryTo s k (record { changed = false; state = s; clock = a .clock })
+      → ExpiryTo s k (record { changed = false; state = Incomplete n t; clock = a .clock })
   waits n t a p e =
       record {
-        state = p ∙ sym (ap (expireState (k .now)) p);
+        state = sym (ap (expireState (k .now)) p);
         clock = ap (λ (x : Answer). x .clock) e ∙ sym (ap (expireClockState k) p);
-        unchanged = λ _. refl;
+        unchanged = λ _. sym p;
       }
 
   module _ (h : HardwareAddress) (t : Instant) (a : Answer) (p : s ≡ Reachable h t) (e : a ≡ askedOf k t) where
@@ -63,13 +63,13 @@ module _ (s : State) (k : Clock) where
           unchanged = λ h. absurd (true≢false h);
         }
 
-    pub lasts : a .expired ≡ false → ExpiryTo s k (record { changed = false; state = s; clock = a .clock })
+    pub lasts : a .expired ≡ false → ExpiryTo s k (record { changed = false; state = Reachable h t; clock = a .clock })
     lasts x =
         let y : hasExpired k t ≡ false = sym test ∙ x in
         record {
-          state = p ∙ sym (ap (expireState (k .now)) p ∙ ap (λ (b : Bool). cond b (Stale h) (Reachable h t)) y);
+          state = sym (ap (expireState (k .now)) p ∙ ap (λ (b : Bool). cond b (Stale h) (Reachable h t)) y);
           clock = ap (λ (x : Answer). x .clock) e ∙ sym (ap (expireClockState k) p);
-          unchanged = λ _. refl;
+          unchanged = λ _. sym p;
         }
 
   pub stays : (h : HardwareAddress) → s ≡ Stale h → ExpiryTo s k (record { changed = false; state = s; clock = k })

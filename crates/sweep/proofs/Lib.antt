@@ -1,3 +1,4 @@
 pub mod ExpiryLaws
 pub mod ProbeLaws
 pub mod SweepLaws
+pub mod TimerLaws
