@@ -2,3 +2,5 @@ pub mod ExpiryLaws
 pub mod ProbeLaws
 pub mod SweepLaws
 pub mod TimerLaws
+pub mod Entries
+pub mod Examples
