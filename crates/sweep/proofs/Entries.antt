@@ -1,21 +1,20 @@
 -- The sweep of a cache, slot for slot, is the sweep of its entries. Assumes nothing.
 use Prim.Native.Nat.{ℕ, zero, suc}
-use mathlib.Core.Path.{_≡_, refl, ap, ap₂, sym, _∙_}
-use mathlib.Core.Bool.{Bool, true, false, cond}
-use mathlib.Core.List.{List, [], _∷_, map}
 use lib.ListN.{length, set, drop, length-map}
 use lib.Seq.{take-append-seam}
-use Rattle.table.specs.Table.{firstFrom, swapRemove, filled}
-use Rattle.time.specs.declared.Instant.{Instant}
-use Rattle.time.specs.declared.Clock.{Clock}
+use mathlib.Core.Bool.{Bool, true, false, cond}
+use mathlib.Core.List.{List, [], _∷_, map}
+use mathlib.Core.Path.{_≡_, refl, ap, ap₂, _∙_}
+use Rattle.neighbor.specs.CacheCalls.{entries, withEntries}
+use Rattle.neighbor.specs.NeighborRules.{Table}
 use Rattle.neighbor.specs.declared.Entry.{Entry}
 use Rattle.neighbor.specs.declared.NeighborCache.{NeighborCache}
-use Rattle.neighbor.specs.NeighborRules.{Table}
-use Rattle.neighbor.specs.CacheCalls.{entries, withEntries}
-use Rattle.sweep.specs.declared.ProbeEvent.{ProbeEvent}
-use Rattle.sweep.specs.declared.ProbeEvent.the-variants.{Retransmit, Failed}
-use Rattle.sweep.specs.SweepRules.{due, spent, probed, Probe, nothing, happens, probeAt, probe, Events, andThen, eventsFrom, expire, expireAll, sweepTable}
 use Rattle.sweep.specs.SweepCalls.{ProbeIn, nothing as nothing-in, happens as happens-in, probeInAt, probeIn, EventsIn, andThenIn, eventsIn, eventsTable, probeAll, sweptIn}
+use Rattle.sweep.specs.SweepRules.{due, spent, probed, Probe, nothing, happens, probeAt, probe, Events, andThen, eventsFrom, expire, expireAll, sweepTable}
+use Rattle.sweep.specs.declared.ProbeEvent.the-variants.{Retransmit, Failed}
+use Rattle.table.specs.Table.{firstFrom, swapRemove}
+use Rattle.time.specs.declared.Clock.{Clock}
+use Rattle.time.specs.declared.Instant.{Instant}
 
 -- the entries of a cache that was given them
 pub entries-of : (c : NeighborCache) (t : Table) → entries (withEntries c t) ≡ t

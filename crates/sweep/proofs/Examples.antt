@@ -1,19 +1,19 @@
 -- Document 01, P11: "start; sweeps at 0, 999, 1000, 1999, 2000, 3000: none, none, retransmit, none, retransmit, failed." By computation. Assumes nothing.
 use Prim.Native.Nat.{ℕ}
-use mathlib.Core.Path.{_≡_, refl}
 use mathlib.Core.List.{List, [], _∷_}
-use Rattle.time.specs.declared.Clock.{Clock}
-use Rattle.time.specs.ClockRules.{idle}
-use Rattle.wire.specs.declared.ipv6.Ipv6Addr.{Ipv6Addr}
+use mathlib.Core.Path.{_≡_, refl}
+use Rattle.neighbor.specs.CacheCalls.{entries, empty, key, keyCheck, changeBy}
+use Rattle.neighbor.specs.NeighborRules.{sameKey, find, before, insertState, onIface}
 use Rattle.neighbor.specs.declared.NeighborCache.{NeighborCache}
 use Rattle.neighbor.specs.declared.State.the-variants.{Started}
-use Rattle.neighbor.specs.NeighborRules.{sameKey, find, before, insertState, onIface}
-use Rattle.neighbor.specs.CacheCalls.{entries, empty, key, keyCheck, changeBy}
-use Rattle.sweep.specs.declared.ProbeEvent.the-variants.{Retransmit, Failed}
-use Rattle.sweep.specs.declared.Events.{Events}
-use Rattle.sweep.specs.declared.Swept.{Swept}
-use Rattle.sweep.specs.SweepRules.{expireAll, expireClocks, due, spent}
 use Rattle.sweep.specs.SweepCalls.{probeIn, eventsIn, eventsTable, probeAll, sweptIn, sweepCheck, sweepBy}
+use Rattle.sweep.specs.SweepRules.{expireAll, expireClocks, due, spent}
+use Rattle.sweep.specs.declared.Events.{Events}
+use Rattle.sweep.specs.declared.ProbeEvent.the-variants.{Retransmit, Failed}
+use Rattle.sweep.specs.declared.Swept.{Swept}
+use Rattle.time.specs.ClockRules.{idle}
+use Rattle.time.specs.declared.Clock.{Clock}
+use Rattle.wire.specs.declared.ipv6.Ipv6Addr.{Ipv6Addr}
 
 unfoldable pub addr : Ipv6Addr
 addr = record { hi = 0xfe80_0000_0000_0000; lo = 1 }

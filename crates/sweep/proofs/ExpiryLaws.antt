@@ -1,25 +1,24 @@
 -- Laws of the expiry pass. Assumes nothing.
 use Prim.Native.Nat.{ℕ, _+_, _<_, _≤_, min}
-use mathlib.Core.Path.{_≡_, refl, ap, ap₂, sym, _∙_}
+use lib.ListN.{length, getD, set}
 use mathlib.Core.Bool.{Bool, true, false, cond, true≢false}
 use mathlib.Core.List.{List}
-use lib.ListN.{length, getD, set}
-use borrow.Author.Tests.{le-leb, lt-leb}
-use Rattle.table.proofs.Laws.{Mapping, mapping, map-next, map-stays, map-reads, mapped-all, Folding, folding, fold-next, folded}
-use Rattle.time.specs.declared.Instant.{Instant}
-use Rattle.time.specs.declared.Clock.{Clock}
-use Rattle.time.specs.declared.Answer.{Answer}
-use Rattle.time.specs.ClockRules.{hasExpired, scheduledOf, askedOf}
-use Rattle.wire.specs.declared.ethernet.HardwareAddress.{HardwareAddress}
-use Rattle.neighbor.specs.declared.State.{State}
-use Rattle.neighbor.specs.declared.State.the-variants.{Started, Incomplete, Reachable, Stale}
+use mathlib.Core.Path.{_≡_, refl, ap, ap₂, sym, _∙_}
+use Rattle.neighbor.specs.CacheCalls.{entries, withEntries, blank}
+use Rattle.neighbor.specs.NeighborRules.{withState}
 use Rattle.neighbor.specs.declared.Entry.{Entry}
 use Rattle.neighbor.specs.declared.NeighborCache.{NeighborCache}
-use Rattle.neighbor.specs.NeighborRules.{withState}
-use Rattle.neighbor.specs.CacheCalls.{entries, withEntries, blank}
-use Rattle.sweep.specs.declared.Expiry.{Expiry}
-use Rattle.sweep.specs.SweepRules.{dueFrom, expireState, expire, expireClockState, expireClock, expireAll, expireClocks}
+use Rattle.neighbor.specs.declared.State.the-variants.{Started, Incomplete, Reachable, Stale}
+use Rattle.neighbor.specs.declared.State.{State}
 use Rattle.sweep.specs.SweepParts.{ExpiryTo}
+use Rattle.sweep.specs.SweepRules.{dueFrom, expireState, expire, expireClockState, expireClock, expireAll, expireClocks}
+use Rattle.sweep.specs.declared.Expiry.{Expiry}
+use Rattle.table.proofs.Laws.{Mapping, mapping, map-next, map-stays, map-reads, mapped-all, Folding, folding, fold-next, folded}
+use Rattle.time.specs.ClockRules.{hasExpired, scheduledOf, askedOf}
+use Rattle.time.specs.declared.Answer.{Answer}
+use Rattle.time.specs.declared.Clock.{Clock}
+use Rattle.time.specs.declared.Instant.{Instant}
+use Rattle.wire.specs.declared.ethernet.HardwareAddress.{HardwareAddress}
 
 -- One state
 

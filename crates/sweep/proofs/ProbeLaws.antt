@@ -1,31 +1,28 @@
 -- Laws of the probe events. Assumes nothing.
 use Prim.Native.Nat.{ℕ, zero, suc, _+_, _-_, _<_, _≤_}
-use mathlib.Core.Path.{_≡_, refl, ap, ap₂, sym, _∙_}
-use mathlib.Core.Bool.{Bool, true, false, cond, _&&_}
-use mathlib.Core.List.{List, [], _∷_, map}
-use native.Mathlib.Numerals.{add-one}
-use native.Mathlib.Omega.{arith}
 use lib.ListN.{length, getD, set, take, drop, replicate, length-set, length-map}
 use lib.Seq.{length-take-le, drop-length}
-use Rattle.table.specs.Table.{firstFrom, swapRemove, filled}
-use Rattle.table.proofs.Laws.{entry-at, entries-from, over, moved-in, moved-count, Collecting, collect, collected} 
-use Rattle.table.proofs.Laws as table
-use Rattle.table.proofs.First.{first-here, first-later, first-none}
-use Rattle.time.specs.declared.Instant.{Instant}
-use Rattle.neighbor.specs.declared.State.{State}
-use Rattle.neighbor.specs.declared.State.the-variants.{Started, Incomplete, Reachable, Stale}
+use mathlib.Core.Bool.{Bool, true, false, cond}
+use mathlib.Core.List.{List, [], _∷_, map}
+use mathlib.Core.Path.{_≡_, refl, ap, ap₂, sym, _∙_}
+use native.Mathlib.Numerals.{add-one}
+use native.Mathlib.Omega.{arith}
+use Rattle.neighbor.specs.CacheCalls.{entries, withEntries, blank}
 use Rattle.neighbor.specs.declared.Entry.{Entry}
 use Rattle.neighbor.specs.declared.NeighborCache.{NeighborCache}
-use Rattle.neighbor.specs.CacheCalls.{entries, withEntries, blank}
-use Rattle.sweep.specs.declared.ProbeEvent.{ProbeEvent}
-use Rattle.sweep.specs.declared.ProbeEvent.the-variants.{Retransmit, Failed}
-use Rattle.sweep.specs.declared.EventSlot.{EventSlot}
-use Rattle.sweep.specs.declared.Events.{Events}
-use Rattle.sweep.specs.declared.Timer.{Timer}
-use Rattle.sweep.specs.declared.Timer.the-variants.{NotDue, Spent, Rearmed}
-use Rattle.sweep.specs.SweepRules.{due, spent, probed}
 use Rattle.sweep.specs.SweepCalls.{ProbeIn, nothing, happens, probeInAt, probeIn, EventsIn, andThenIn, eventsIn, slotOf, eventsTable, probeAll, blankEvent}
 use Rattle.sweep.specs.SweepParts.{timerOf}
+use Rattle.sweep.specs.SweepRules.{due, spent, probed}
+use Rattle.sweep.specs.declared.EventSlot.{EventSlot}
+use Rattle.sweep.specs.declared.Events.{Events}
+use Rattle.sweep.specs.declared.ProbeEvent.the-variants.{Retransmit, Failed}
+use Rattle.sweep.specs.declared.ProbeEvent.{ProbeEvent}
+use Rattle.sweep.specs.declared.Timer.the-variants.{NotDue, Spent, Rearmed}
+use Rattle.table.proofs.First.{first-here, first-later, first-none}
+use Rattle.table.specs.Table.{swapRemove, filled}
+use Rattle.time.specs.declared.Instant.{Instant}
+use Rattle.table.proofs.Laws.{entry-at, entries-from, over, moved-in, moved-count, Collecting, collect, collected}
+use Rattle.table.proofs.Laws as table
 
 -- What one step of events leaves to do
 

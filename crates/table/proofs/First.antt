@@ -1,14 +1,14 @@
 -- Laws of `firstFrom`. Assumes nothing.
 use Prim.Native.Nat.{ℕ, zero, suc, _+_, _≤_, _<_}
-use mathlib.Core.Path.{_≡_, refl, ap, sym, _∙_}
+use lib.ListN.{length, getD}
 use mathlib.Core.Bool.{Bool, true, false, cond, true≢false}
 use mathlib.Core.List.{List, [], _∷_}
 use mathlib.Core.Logic.{_⊎_, inl, inr, ⊎-elim}
+use mathlib.Core.Path.{_≡_, refl, ap, sym, _∙_}
 use native.Mathlib.Numerals.{add-one}
 use native.Mathlib.Omega.{arith}
-use lib.ListN.{length, getD}
-use Rattle.table.specs.Table.{firstFrom}
 use Rattle.table.specs.First.{FirstAt, NoneFrom, FirstFromLaw}
+use Rattle.table.specs.Table.{firstFrom}
 
 module _ {A : Type 0} (d : A) (test : A → Bool) where
   -- the entry at n passes

@@ -1,14 +1,14 @@
 -- Laws of any table: `s` the slots, `n` the field `len`, `k` the number of entries.
-use mathlib.Core.Path.{_≡_, refl, ap, ap₂, sym, _∙_}
-use mathlib.Core.Bool.{Bool, true, false, cond}
-use mathlib.Core.Logic.{⊎-elim}
-use mathlib.Core.List.{List, [], _∷_, _++_, map, append-assoc, append-nil}
 use Prim.Native.Nat.{ℕ, suc, zero, _+_, _-_, _<_, _≤_, min}
+use lib.ListN.{length, take, drop, getD, set, length-take, length-map, length-set, length-append, take-append-drop, drop-of-length-le}
+use lib.Seq.{drop-cons, take-suc, take-all, set-split, getD-take, getD-drop, take-set-lt, drop-set-lt, take-suc-set, take-take, set-getD, drop-drop, length-take-le}
+use mathlib.Core.Bool.{Bool, true, false}
+use mathlib.Core.List.{List, [], _∷_, _++_, map, append-assoc, append-nil}
+use mathlib.Core.Logic.{⊎-elim}
+use mathlib.Core.Path.{_≡_, refl, ap, ap₂, sym, _∙_}
 use native.Mathlib.Nat.{eq-or-lt-of-le}
 use native.Mathlib.Numerals.{add-one}
 use native.Mathlib.Omega.{arith}
-use lib.ListN.{length, take, drop, getD, set, length-take, length-map, length-set, length-append, take-append-drop, drop-of-length-le}
-use lib.Seq.{drop-cons, take-suc, take-all, set-split, getD-take, getD-drop, take-set-lt, drop-set-lt, take-suc-set, take-take, set-getD, drop-drop, length-take-le}
 use Rattle.table.specs.Table.{filled, lastOf, frontOf, swapRemove, without, kept, dropped, atFirst, anyOf, firstOf, foldOver}
 
 -- `length s ≡ 16` of a parameter's field: `search (needs, mapped)`

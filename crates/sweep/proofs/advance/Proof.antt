@@ -1,12 +1,9 @@
 use borrow.Author.Needs.{needs}
 use mathlib.Core.Path.{ap}
-use Rattle.sweep.specs.SweepRules.{dueState}
 use Rattle.sweep.proofs.TimerLaws.{waits-for-none, waits-here, runs-out, set-again}
+use Rattle.sweep.specs.SweepRules.{dueState}
 use Rattle.sweep.proofs.advance.Statement.{statement}
 use Rattle.sweep.proofs.advance.Tie as tie
-use Rattle.sweep.proofs.advance.Reads as reads
-use Rattle.sweep.proofs.advance.Lts as lts
-use Rattle.time.proofs.Instant.add.Reads as add-reads
 
 enum-known-s : tie.Need-enum-known-s
 enum-known-s c = search needs

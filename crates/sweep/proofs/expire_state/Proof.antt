@@ -2,11 +2,6 @@ use borrow.Author.Needs.{needs}
 use Rattle.sweep.proofs.ExpiryLaws.{starts, waits, expires, lasts, stays}
 use Rattle.sweep.proofs.expire_state.Statement.{statement}
 use Rattle.sweep.proofs.expire_state.Tie as tie
-use Rattle.sweep.proofs.expire_state.Reads as reads
-use Rattle.sweep.proofs.expire_state.Lts as lts
-use Rattle.time.proofs.Instant.add.Reads as add-reads
-use Rattle.time.proofs.asked.Reads as asked-reads
-use Rattle.time.proofs.scheduled.Reads as scheduled-reads
 
 enum-told : tie.Need-enum-told
 enum-told c = search needs

@@ -1,21 +1,14 @@
-use borrow.Author.Needs.{needs}
 use Prim.Native.Nat.{_-_}
-use mathlib.Core.Path.{refl, sym, _∙_}
-use native.Mathlib.Omega.{arith}
+use borrow.Author.Needs.{needs}
 use lib.ListN.{length}
-use mathlib.Core.Path.{_≡_}
-use Rattle.table.proofs.Laws.{mapped}
+use mathlib.Core.Path.{refl, sym, _∙_, _≡_}
+use native.Mathlib.Omega.{arith}
 use Rattle.sweep.proofs.ExpiryLaws.{Expiring, expiring, store, keep}
 use Rattle.sweep.proofs.ProbeLaws.{Probing, probing, stepped-over, failed, retransmitted}
 use Rattle.sweep.proofs.SweepLaws.{refused, swept, both}
+use Rattle.table.proofs.Laws.{mapped}
 use Rattle.sweep.proofs.sweep_at.Statement.{statement}
 use Rattle.sweep.proofs.sweep_at.Tie as tie
-use Rattle.sweep.proofs.sweep_at.Reads as reads
-use Rattle.sweep.proofs.sweep_at.Lts as lts
-use Rattle.sweep.proofs.advance.Reads as advance-reads
-use Rattle.sweep.proofs.expire_state.Reads as expire-state-reads
-use Rattle.table.proofs.count_of.Reads as count-of-reads
-use Rattle.wire.proofs.error.check_time.Reads as check-time-reads
 
 abbrev Inv-loop : tie.InvT-loop
 Inv-loop iface now events c₀ k₀ len i₀ c k i = Expiring c₀ k₀ len (c .slots) k i
