@@ -102,47 +102,47 @@ pub trait Side {
     fn option(&mut self, bytes: &[u8]) -> Option<(Held, usize, usize)>;
     fn write(&mut self, message: &mut [u8], place: usize, option: &ToWrite) -> Result<(), Refused>;
 
-    fn lookup(&mut self, iface: u32, addr: Addr) -> Result<Lookup, Refused>;
-    fn start(&mut self, iface: u32, addr: Addr) -> Result<(), Refused>;
-    fn fill(&mut self, iface: u32, addr: Addr, mac: Mac, now: u64) -> Result<(), Refused>;
-    fn insert(&mut self, iface: u32, addr: Addr, mac: Mac, expires: u64) -> Result<(), Refused>;
-    fn get(&mut self, iface: u32, addr: Addr) -> Result<Option<Shown>, Refused>;
-    fn remove(&mut self, iface: u32, addr: Addr) -> Result<Option<Shown>, Refused>;
-    fn clear(&mut self, iface: u32) -> Result<(), Refused>;
+    fn lookup(&mut self, iface: u8, addr: Addr) -> Result<Lookup, Refused>;
+    fn start(&mut self, iface: u8, addr: Addr) -> Result<(), Refused>;
+    fn fill(&mut self, iface: u8, addr: Addr, mac: Mac, now: u64) -> Result<(), Refused>;
+    fn insert(&mut self, iface: u8, addr: Addr, mac: Mac, expires: u64) -> Result<(), Refused>;
+    fn get(&mut self, iface: u8, addr: Addr) -> Result<Option<Shown>, Refused>;
+    fn remove(&mut self, iface: u8, addr: Addr) -> Result<Option<Shown>, Refused>;
+    fn clear(&mut self, iface: u8) -> Result<(), Refused>;
     /// The events, and the clock's deadline afterwards.
-    fn sweep(&mut self, iface: u32, now: u64, deadline: Option<u64>) -> Result<(Vec<Event>, Option<u64>), Refused>;
+    fn sweep(&mut self, iface: u8, now: u64, deadline: Option<u64>) -> Result<(Vec<Event>, Option<u64>), Refused>;
     /// All entries in table order.
-    fn cache(&mut self) -> Vec<(u32, Addr, Entry)>;
+    fn cache(&mut self) -> Vec<(u8, Addr, Entry)>;
 
     /// The packet dropped to make room.
-    fn push(&mut self, iface: u32, addr: Addr, handle: u32) -> Result<Option<u32>, Refused>;
-    fn release(&mut self, iface: u32, addr: Addr) -> Result<Option<u32>, Refused>;
+    fn push(&mut self, iface: u8, addr: Addr, handle: u32) -> Result<Option<u32>, Refused>;
+    fn release(&mut self, iface: u8, addr: Addr) -> Result<Option<u32>, Refused>;
     fn orphans(&mut self) -> Vec<u32>;
-    fn purge(&mut self, iface: u32) -> Result<Vec<u32>, Refused>;
+    fn purge(&mut self, iface: u8) -> Result<Vec<u32>, Refused>;
     /// All packets in queue order.
-    fn queue(&mut self) -> Vec<(u32, Addr, u32)>;
+    fn queue(&mut self) -> Vec<(u8, Addr, u32)>;
 
-    fn add_address(&mut self, iface: u32, addr: Addr, len: u64) -> Result<(), Refused>;
+    fn add_address(&mut self, iface: u8, addr: Addr, len: u64) -> Result<(), Refused>;
     /// A default route of the application.
-    fn add_route(&mut self, iface: u32, via: Addr) -> Result<(), Refused>;
-    fn link(&mut self, iface: u32, up: bool) -> Result<(), Refused>;
-    fn restart(&mut self, iface: u32) -> Result<(), Refused>;
-    fn turn_on(&mut self, iface: u32) -> Result<(), Refused>;
-    fn turn_off(&mut self, iface: u32) -> Result<(), Refused>;
+    fn add_route(&mut self, iface: u8, via: Addr) -> Result<(), Refused>;
+    fn link(&mut self, iface: u8, up: bool) -> Result<(), Refused>;
+    fn restart(&mut self, iface: u8) -> Result<(), Refused>;
+    fn turn_on(&mut self, iface: u8) -> Result<(), Refused>;
+    fn turn_off(&mut self, iface: u8) -> Result<(), Refused>;
     /// False for Off.
-    fn advertise(&mut self, iface: u32, source: Addr, now: u64, message: &[u8]) -> Result<bool, Refused>;
+    fn advertise(&mut self, iface: u8, source: Addr, now: u64, message: &[u8]) -> Result<bool, Refused>;
     /// `room`: the bytes of the lent buffer. The clock's deadline afterwards.
-    fn poll(&mut self, iface: u32, now: u64, deadline: Option<u64>, room: u64)
+    fn poll(&mut self, iface: u8, now: u64, deadline: Option<u64>, room: u64)
     -> Result<(Polled, Option<u64>), Refused>;
     /// None with SLAAC off.
-    fn soliciting(&mut self, iface: u32) -> Result<Option<Soliciting>, Refused>;
+    fn soliciting(&mut self, iface: u8) -> Result<Option<Soliciting>, Refused>;
     /// Prefix, length, preferred, valid.
-    fn prefixes(&mut self, iface: u32) -> Result<Vec<(Addr, u8, u64, u64)>, Refused>;
-    fn routers(&mut self, iface: u32) -> Result<Vec<(Addr, u64)>, Refused>;
+    fn prefixes(&mut self, iface: u8) -> Result<Vec<(Addr, u8, u64, u64)>, Refused>;
+    fn routers(&mut self, iface: u8) -> Result<Vec<(Addr, u64)>, Refused>;
     /// Address, length, whether SLAAC's, preferred.
-    fn addresses(&mut self, iface: u32) -> Result<Vec<(Addr, u8, bool, Preferred)>, Refused>;
+    fn addresses(&mut self, iface: u8) -> Result<Vec<(Addr, u8, bool, Preferred)>, Refused>;
     /// Interface, via, whether SLAAC's, expiry.
-    fn routes(&mut self) -> Vec<(u32, Addr, bool, Option<u64>)>;
+    fn routes(&mut self) -> Vec<(u8, Addr, bool, Option<u64>)>;
 }
 
 // ---- lines
@@ -482,7 +482,7 @@ impl Default for Real {
     }
 }
 
-fn known(iface: u32) -> Result<usize, Refused> {
+fn known(iface: u8) -> Result<usize, Refused> {
     if iface > 3 { Err(7) } else { Ok(iface as usize) }
 }
 
@@ -543,7 +543,7 @@ impl Side for Real {
         Ok(())
     }
 
-    fn lookup(&mut self, iface: u32, addr: Addr) -> Result<Lookup, Refused> {
+    fn lookup(&mut self, iface: u8, addr: Addr) -> Result<Lookup, Refused> {
         let iface = known(iface)?;
         unicast(addr)?;
         Ok(match self.world.lookup(iface, addr) {
@@ -553,14 +553,14 @@ impl Side for Real {
         })
     }
 
-    fn start(&mut self, iface: u32, addr: Addr) -> Result<(), Refused> {
+    fn start(&mut self, iface: u8, addr: Addr) -> Result<(), Refused> {
         let iface = known(iface)?;
         unicast(addr)?;
         self.world.start(iface, addr);
         Ok(())
     }
 
-    fn fill(&mut self, iface: u32, addr: Addr, mac: Mac, now: u64) -> Result<(), Refused> {
+    fn fill(&mut self, iface: u8, addr: Addr, mac: Mac, now: u64) -> Result<(), Refused> {
         let now = taken(now)?;
         let iface = known(iface)?;
         unicast(addr)?;
@@ -571,29 +571,29 @@ impl Side for Real {
         Ok(())
     }
 
-    fn insert(&mut self, iface: u32, addr: Addr, mac: Mac, expires: u64) -> Result<(), Refused> {
+    fn insert(&mut self, iface: u8, addr: Addr, mac: Mac, expires: u64) -> Result<(), Refused> {
         let expires = taken(expires)?;
         let iface = known(iface)?;
         // The real call refuses by itself.
         if self.world.insert(iface, addr, mac, expires) { Ok(()) } else { Err(2) }
     }
 
-    fn get(&mut self, iface: u32, addr: Addr) -> Result<Option<Shown>, Refused> {
+    fn get(&mut self, iface: u8, addr: Addr) -> Result<Option<Shown>, Refused> {
         let found = self.world.get(known(iface)?, addr);
         Ok(found.map(|s| self.shown(s)))
     }
 
-    fn remove(&mut self, iface: u32, addr: Addr) -> Result<Option<Shown>, Refused> {
+    fn remove(&mut self, iface: u8, addr: Addr) -> Result<Option<Shown>, Refused> {
         let gone = self.world.remove(known(iface)?, addr);
         Ok(gone.map(|s| self.shown(s)))
     }
 
-    fn clear(&mut self, iface: u32) -> Result<(), Refused> {
+    fn clear(&mut self, iface: u8) -> Result<(), Refused> {
         self.world.clear(known(iface)?);
         Ok(())
     }
 
-    fn sweep(&mut self, iface: u32, now: u64, deadline: Option<u64>) -> Result<(Vec<Event>, Option<u64>), Refused> {
+    fn sweep(&mut self, iface: u8, now: u64, deadline: Option<u64>) -> Result<(Vec<Event>, Option<u64>), Refused> {
         let now = taken(now)?;
         let (events, deadline) = self.world.sweep(known(iface)?, now, deadline.map(|t| t as u32));
         let events = events.into_iter().map(|e| match e {
@@ -603,7 +603,7 @@ impl Side for Real {
         Ok((events.collect(), deadline.map(|t| self.outer(t))))
     }
 
-    fn cache(&mut self) -> Vec<(u32, Addr, Entry)> {
+    fn cache(&mut self) -> Vec<(u8, Addr, Entry)> {
         let entry = |(iface, addr, state): (usize, Addr, world::State)| {
             let state = match state {
                 world::State::Started => Entry::Started,
@@ -611,18 +611,18 @@ impl Side for Real {
                 world::State::Reachable(mac, t) => Entry::Reachable(mac, self.outer(t)),
                 world::State::Stale(mac) => Entry::Stale(mac),
             };
-            (iface as u32, addr, state)
+            (iface as u8, addr, state)
         };
         self.world.entries().into_iter().map(entry).collect()
     }
 
-    fn push(&mut self, iface: u32, addr: Addr, handle: u32) -> Result<Option<u32>, Refused> {
+    fn push(&mut self, iface: u8, addr: Addr, handle: u32) -> Result<Option<u32>, Refused> {
         let dropped = self.world.push(known(iface)?, addr, handle);
         assert!(dropped.len() <= 1);
         Ok(dropped.first().copied())
     }
 
-    fn release(&mut self, iface: u32, addr: Addr) -> Result<Option<u32>, Refused> {
+    fn release(&mut self, iface: u8, addr: Addr) -> Result<Option<u32>, Refused> {
         Ok(self.world.pop(known(iface)?, addr))
     }
 
@@ -630,16 +630,16 @@ impl Side for Real {
         self.world.purge_orphans()
     }
 
-    fn purge(&mut self, iface: u32) -> Result<Vec<u32>, Refused> {
+    fn purge(&mut self, iface: u8) -> Result<Vec<u32>, Refused> {
         Ok(self.world.purge_iface(known(iface)?))
     }
 
-    fn queue(&mut self) -> Vec<(u32, Addr, u32)> {
-        let entry = |(iface, addr, handle): (usize, Addr, u32)| (iface as u32, addr, handle);
+    fn queue(&mut self) -> Vec<(u8, Addr, u32)> {
+        let entry = |(iface, addr, handle): (usize, Addr, u32)| (iface as u8, addr, handle);
         self.world.waiting().into_iter().map(entry).collect()
     }
 
-    fn add_address(&mut self, iface: u32, addr: Addr, len: u64) -> Result<(), Refused> {
+    fn add_address(&mut self, iface: u8, addr: Addr, len: u64) -> Result<(), Refused> {
         let iface = known(iface)?;
         if len > 128 {
             return Err(14);
@@ -651,27 +651,27 @@ impl Side for Real {
         if self.world.push_static(iface, addr, len) { Ok(()) } else { Err(8) }
     }
 
-    fn add_route(&mut self, iface: u32, via: Addr) -> Result<(), Refused> {
+    fn add_route(&mut self, iface: u8, via: Addr) -> Result<(), Refused> {
         let known = known(iface)?;
-        let same = |r: &(u32, Addr, bool, Option<u64>)| r.0 == iface && r.1 == via && !r.2;
+        let same = |r: &(u8, Addr, bool, Option<u64>)| r.0 == iface && r.1 == via && !r.2;
         if self.routes().iter().any(same) {
             return Err(9);
         }
         if self.world.push_route(known, via) { Ok(()) } else { Err(8) }
     }
 
-    fn link(&mut self, iface: u32, up: bool) -> Result<(), Refused> {
+    fn link(&mut self, iface: u8, up: bool) -> Result<(), Refused> {
         self.world.set_link(known(iface)?, up);
         Ok(())
     }
 
-    fn restart(&mut self, iface: u32) -> Result<(), Refused> {
+    fn restart(&mut self, iface: u8) -> Result<(), Refused> {
         self.world.restart(known(iface)?);
         Ok(())
     }
 
     /// The real `set_slaac` starts afresh when SLAAC is on; document 01 has it do nothing then.
-    fn turn_on(&mut self, iface: u32) -> Result<(), Refused> {
+    fn turn_on(&mut self, iface: u8) -> Result<(), Refused> {
         let iface = known(iface)?;
         if !self.world.is_on(iface) {
             self.world.turn_on(iface);
@@ -679,13 +679,13 @@ impl Side for Real {
         Ok(())
     }
 
-    fn turn_off(&mut self, iface: u32) -> Result<(), Refused> {
+    fn turn_off(&mut self, iface: u8) -> Result<(), Refused> {
         self.world.turn_off(known(iface)?);
         self.world.dropped();
         Ok(())
     }
 
-    fn advertise(&mut self, iface: u32, source: Addr, now: u64, message: &[u8]) -> Result<bool, Refused> {
+    fn advertise(&mut self, iface: u8, source: Addr, now: u64, message: &[u8]) -> Result<bool, Refused> {
         let now = taken(now)?;
         let iface = known(iface)?;
         if !self.world.is_on(iface) {
@@ -706,7 +706,7 @@ impl Side for Real {
 
     fn poll(
         &mut self,
-        iface: u32,
+        iface: u8,
         now: u64,
         deadline: Option<u64>,
         room: u64,
@@ -722,7 +722,7 @@ impl Side for Real {
         Ok((polled, deadline.map(|t| self.outer(t))))
     }
 
-    fn soliciting(&mut self, iface: u32) -> Result<Option<Soliciting>, Refused> {
+    fn soliciting(&mut self, iface: u8) -> Result<Option<Soliciting>, Refused> {
         let Some(Solicitor {
             phase,
             left,
@@ -750,17 +750,17 @@ impl Side for Real {
         }))
     }
 
-    fn prefixes(&mut self, iface: u32) -> Result<Vec<(Addr, u8, u64, u64)>, Refused> {
+    fn prefixes(&mut self, iface: u8) -> Result<Vec<(Addr, u8, u64, u64)>, Refused> {
         let entry = |(p, len, preferred, valid)| (p, len, self.outer(preferred), self.outer(valid));
         Ok(self.world.prefixes(known(iface)?).into_iter().map(entry).collect())
     }
 
-    fn routers(&mut self, iface: u32) -> Result<Vec<(Addr, u64)>, Refused> {
+    fn routers(&mut self, iface: u8) -> Result<Vec<(Addr, u64)>, Refused> {
         let entry = |(r, t)| (r, self.outer(t));
         Ok(self.world.routers(known(iface)?).into_iter().map(entry).collect())
     }
 
-    fn addresses(&mut self, iface: u32) -> Result<Vec<(Addr, u8, bool, Preferred)>, Refused> {
+    fn addresses(&mut self, iface: u8) -> Result<Vec<(Addr, u8, bool, Preferred)>, Refused> {
         let entry = |(a, len, slaac, kept)| {
             let preferred = match kept {
                 Kept::Always => Preferred::Always,
@@ -772,9 +772,9 @@ impl Side for Real {
         Ok(self.world.addresses(known(iface)?).into_iter().map(entry).collect())
     }
 
-    fn routes(&mut self) -> Vec<(u32, Addr, bool, Option<u64>)> {
+    fn routes(&mut self) -> Vec<(u8, Addr, bool, Option<u64>)> {
         let entry = |(iface, _, _, via, slaac, t): (usize, Addr, u8, Addr, bool, Option<u32>)| {
-            (iface as u32, via, slaac, t.map(|t| self.outer(t)))
+            (iface as u8, via, slaac, t.map(|t| self.outer(t)))
         };
         self.world.routes().into_iter().map(entry).collect()
     }
@@ -851,7 +851,7 @@ impl Side for Modelled {
         if model::write_at(message, place, &bytes) { Ok(()) } else { Err(4) }
     }
 
-    fn lookup(&mut self, iface: u32, addr: Addr) -> Result<Lookup, Refused> {
+    fn lookup(&mut self, iface: u8, addr: Addr) -> Result<Lookup, Refused> {
         Ok(match done(self.0.lookup(iface as usize, big(addr)))? {
             model::Found::Found(mac) => Lookup::Found(small_mac(mac)),
             model::Found::Pending => Lookup::Pending,
@@ -859,31 +859,31 @@ impl Side for Modelled {
         })
     }
 
-    fn start(&mut self, iface: u32, addr: Addr) -> Result<(), Refused> {
+    fn start(&mut self, iface: u8, addr: Addr) -> Result<(), Refused> {
         done(self.0.start(iface as usize, big(addr)))
     }
 
-    fn fill(&mut self, iface: u32, addr: Addr, mac: Mac, now: u64) -> Result<(), Refused> {
+    fn fill(&mut self, iface: u8, addr: Addr, mac: Mac, now: u64) -> Result<(), Refused> {
         done(self.0.fill(iface as usize, big(addr), big_mac(mac), now))
     }
 
-    fn insert(&mut self, iface: u32, addr: Addr, mac: Mac, expires: u64) -> Result<(), Refused> {
+    fn insert(&mut self, iface: u8, addr: Addr, mac: Mac, expires: u64) -> Result<(), Refused> {
         done(self.0.insert(iface as usize, big(addr), big_mac(mac), expires))
     }
 
-    fn get(&mut self, iface: u32, addr: Addr) -> Result<Option<Shown>, Refused> {
+    fn get(&mut self, iface: u8, addr: Addr) -> Result<Option<Shown>, Refused> {
         Ok(done(self.0.get(iface as usize, big(addr)))?.map(listed))
     }
 
-    fn remove(&mut self, iface: u32, addr: Addr) -> Result<Option<Shown>, Refused> {
+    fn remove(&mut self, iface: u8, addr: Addr) -> Result<Option<Shown>, Refused> {
         Ok(done(self.0.remove(iface as usize, big(addr)))?.map(listed))
     }
 
-    fn clear(&mut self, iface: u32) -> Result<(), Refused> {
+    fn clear(&mut self, iface: u8) -> Result<(), Refused> {
         done(self.0.clear(iface as usize))
     }
 
-    fn sweep(&mut self, iface: u32, now: u64, deadline: Option<u64>) -> Result<(Vec<Event>, Option<u64>), Refused> {
+    fn sweep(&mut self, iface: u8, now: u64, deadline: Option<u64>) -> Result<(Vec<Event>, Option<u64>), Refused> {
         let mut clock = model::Clock { now, deadline };
         let events = done(self.0.sweep(iface as usize, &mut clock))?;
         let events = events.into_iter().map(|e| match e {
@@ -893,7 +893,7 @@ impl Side for Modelled {
         Ok((events.collect(), clock.deadline))
     }
 
-    fn cache(&mut self) -> Vec<(u32, Addr, Entry)> {
+    fn cache(&mut self) -> Vec<(u8, Addr, Entry)> {
         let entry = |n: &model::Neighbour| {
             let state = match n.state {
                 model::State::Started => Entry::Started,
@@ -901,16 +901,16 @@ impl Side for Modelled {
                 model::State::Reachable { mac, until } => Entry::Reachable(small_mac(mac), until),
                 model::State::Stale { mac } => Entry::Stale(small_mac(mac)),
             };
-            (n.iface as u32, n.addr.to_be_bytes(), state)
+            (n.iface as u8, n.addr.to_be_bytes(), state)
         };
         self.0.neighbours.iter().map(entry).collect()
     }
 
-    fn push(&mut self, iface: u32, addr: Addr, handle: u32) -> Result<Option<u32>, Refused> {
+    fn push(&mut self, iface: u8, addr: Addr, handle: u32) -> Result<Option<u32>, Refused> {
         done(self.0.push(iface as usize, big(addr), handle))
     }
 
-    fn release(&mut self, iface: u32, addr: Addr) -> Result<Option<u32>, Refused> {
+    fn release(&mut self, iface: u8, addr: Addr) -> Result<Option<u32>, Refused> {
         done(self.0.release(iface as usize, big(addr)))
     }
 
@@ -918,44 +918,44 @@ impl Side for Modelled {
         self.0.purge_orphans()
     }
 
-    fn purge(&mut self, iface: u32) -> Result<Vec<u32>, Refused> {
+    fn purge(&mut self, iface: u8) -> Result<Vec<u32>, Refused> {
         done(self.0.purge_iface(iface as usize))
     }
 
-    fn queue(&mut self) -> Vec<(u32, Addr, u32)> {
-        let entry = |p: &model::Packet| (p.iface as u32, p.addr.to_be_bytes(), p.handle);
+    fn queue(&mut self) -> Vec<(u8, Addr, u32)> {
+        let entry = |p: &model::Packet| (p.iface as u8, p.addr.to_be_bytes(), p.handle);
         self.0.packets.iter().map(entry).collect()
     }
 
-    fn add_address(&mut self, iface: u32, addr: Addr, len: u64) -> Result<(), Refused> {
+    fn add_address(&mut self, iface: u8, addr: Addr, len: u64) -> Result<(), Refused> {
         done(self.0.add_address(iface as usize, big(addr), len))
     }
 
-    fn add_route(&mut self, iface: u32, via: Addr) -> Result<(), Refused> {
+    fn add_route(&mut self, iface: u8, via: Addr) -> Result<(), Refused> {
         done(self.0.add_route(iface as usize, big(via)))
     }
 
-    fn link(&mut self, iface: u32, up: bool) -> Result<(), Refused> {
+    fn link(&mut self, iface: u8, up: bool) -> Result<(), Refused> {
         self.0.set_link(known(iface)?, up);
         Ok(())
     }
 
-    fn restart(&mut self, iface: u32) -> Result<(), Refused> {
+    fn restart(&mut self, iface: u8) -> Result<(), Refused> {
         self.0.restart(known(iface)?);
         Ok(())
     }
 
-    fn turn_on(&mut self, iface: u32) -> Result<(), Refused> {
+    fn turn_on(&mut self, iface: u8) -> Result<(), Refused> {
         self.0.turn_on(known(iface)?);
         Ok(())
     }
 
-    fn turn_off(&mut self, iface: u32) -> Result<(), Refused> {
+    fn turn_off(&mut self, iface: u8) -> Result<(), Refused> {
         self.0.turn_off(known(iface)?);
         Ok(())
     }
 
-    fn advertise(&mut self, iface: u32, source: Addr, now: u64, message: &[u8]) -> Result<bool, Refused> {
+    fn advertise(&mut self, iface: u8, source: Addr, now: u64, message: &[u8]) -> Result<bool, Refused> {
         match self.0.advertise(iface as usize, now, big(source), message) {
             model::Answer::Done(()) => Ok(true),
             model::Answer::Off => Ok(false),
@@ -965,7 +965,7 @@ impl Side for Modelled {
 
     fn poll(
         &mut self,
-        iface: u32,
+        iface: u8,
         now: u64,
         deadline: Option<u64>,
         room: u64,
@@ -981,7 +981,7 @@ impl Side for Modelled {
         Ok((polled, clock.deadline))
     }
 
-    fn soliciting(&mut self, iface: u32) -> Result<Option<Soliciting>, Refused> {
+    fn soliciting(&mut self, iface: u8) -> Result<Option<Soliciting>, Refused> {
         let slaac = &self.0.ifaces[known(iface)?].slaac;
         Ok(slaac.as_ref().map(|s| Soliciting {
             phase: match s.phase {
@@ -997,19 +997,19 @@ impl Side for Modelled {
         }))
     }
 
-    fn prefixes(&mut self, iface: u32) -> Result<Vec<(Addr, u8, u64, u64)>, Refused> {
+    fn prefixes(&mut self, iface: u8) -> Result<Vec<(Addr, u8, u64, u64)>, Refused> {
         let entry = |p: &model::Prefix| (p.addr.to_be_bytes(), p.len, p.preferred, p.valid);
         let slaac = &self.0.ifaces[known(iface)?].slaac;
         Ok(slaac.iter().flat_map(|s| s.prefixes.iter().map(entry)).collect())
     }
 
-    fn routers(&mut self, iface: u32) -> Result<Vec<(Addr, u64)>, Refused> {
+    fn routers(&mut self, iface: u8) -> Result<Vec<(Addr, u64)>, Refused> {
         let entry = |r: &model::Router| (r.addr.to_be_bytes(), r.until);
         let slaac = &self.0.ifaces[known(iface)?].slaac;
         Ok(slaac.iter().flat_map(|s| s.routers.iter().map(entry)).collect())
     }
 
-    fn addresses(&mut self, iface: u32) -> Result<Vec<(Addr, u8, bool, Preferred)>, Refused> {
+    fn addresses(&mut self, iface: u8) -> Result<Vec<(Addr, u8, bool, Preferred)>, Refused> {
         let entry = |a: &model::Address| {
             let preferred = match a.preferred {
                 model::Preferred::Always => Preferred::Always,
@@ -1021,8 +1021,8 @@ impl Side for Modelled {
         Ok(self.0.ifaces[known(iface)?].addrs.iter().map(entry).collect())
     }
 
-    fn routes(&mut self) -> Vec<(u32, Addr, bool, Option<u64>)> {
-        let entry = |r: &model::Route| (r.iface as u32, r.via.to_be_bytes(), r.slaac, r.until);
+    fn routes(&mut self) -> Vec<(u8, Addr, bool, Option<u64>)> {
+        let entry = |r: &model::Route| (r.iface as u8, r.via.to_be_bytes(), r.slaac, r.until);
         self.0.routes.iter().map(entry).collect()
     }
 }

@@ -916,9 +916,14 @@ pub fn calls(seed: u64, number: u64, wide: bool) -> Vec<String> {
     if style == 2 {
         maker.few = 30;
     }
-    for _ in 0..10 + maker.rng.below(80) {
+    let crowd = if maker.rng.one_in(8) { 9 } else { 0 };
+    for i in 0..10 + maker.rng.below(80) {
         maker.model = side.0.clone();
-        let line = maker.call(style);
+        let line = if i < crowd {
+            format!("address 0 {:032x} 64", 0x2001_0db8u128 << 96 | u128::from(i))
+        } else {
+            maker.call(style)
+        };
         crate::calls::answer(&mut side, &line);
         lines.push(line);
     }
@@ -936,7 +941,7 @@ pub fn calls(seed: u64, number: u64, wide: bool) -> Vec<String> {
 impl Maker {
     fn call(&mut self, style: u64) -> String {
         let iface = match self.rng.below(40) {
-            0 => self.rng.of(&[4, 5, 255, 256, u64::from(u32::MAX)]),
+            0 => self.rng.of(&[4, 5, 128, 255]),
             n => n % self.rng.of(&[1, 2, 4]),
         };
         match style {
