@@ -252,7 +252,8 @@ impl Maker {
         let formed = |p: Addr, mac: Mac| p >> 64 << 64 | u128::from(model::eui64(mac));
         for i in 0..count {
             let prefix = self.rng.of(&self.prefixes);
-            let addr = match self.rng.below(if i == 0 { 4 } else { 12 }) {
+            let likely = i == 0 && !self.rng.one_in(4);
+            let addr = match self.rng.below(if likely { 4 } else { 12 }) {
                 0..=2 => own,
                 3 => LINK_LOCAL | u128::from(self.rng.below(5)),
                 4..=6 => formed(prefix, self.file.mac),

@@ -227,10 +227,10 @@ fn main() {
         "{done} files equal, {differences} differ, {outside} outside what the Rust can be compared on; {bytes} bytes; {:.1} s",
         began.elapsed().as_secs_f64()
     );
-    print_rules(&fired, false);
     if differences > 0 {
         exit(1)
     }
+    print_rules(&fired, false);
 }
 
 /// How many rules fired, and which did not: those of event files, or those of single calls.
