@@ -1,0 +1,5 @@
+pub mod Fields
+pub mod Decimal
+pub mod Hex
+pub mod Place
+pub mod Addresses
