@@ -1,0 +1,3 @@
+pub mod Checks
+pub mod Addresses
+pub mod Routes

@@ -86,7 +86,7 @@ abbrev pub slaacRoute : ℕ → Ipv6Addr → Instant → Route
 slaacRoute iface via t = record { cidr = anywhere; «via_router» = via; iface = iface; origin = Slaac; «expires_at» = At t }
 
 abbrev pub extended : Instant → Route → List Route
-extended t e = record { cidr = e .cidr; «via_router» = e .«via_router»; iface = e .iface; origin = e .origin; «expires_at» = At t } ∷ []
+extended t e = record { cidr = e .cidr; «via_router» = e .«via_router»; iface = e .iface; origin = Slaac; «expires_at» = At t } ∷ []
 
 -- it takes the new time; a missing one is appended if there is room
 unfoldable pub putRoute : ℕ → Ipv6Addr → Instant → List Route → List Route

@@ -1,6 +1,12 @@
 // The addresses of an interface.
+ghost use mathlib.Core.Path.{_≡_};
+ghost use Rattle.iface.specs.AddressRules.{addrsOf, withAddrs, emptyAddrs, isSlaac, manualAddr, AddedTo, putAddr, dropAddr, clearAddrs, firstLocal, addrAt};
 use crate::Outcome;
+use crate::check_prefix;
+use table::count_of;
 use time::Instant;
+use wire::error::Check;
+use wire::error::Refusal;
 use wire::ipv6::Ipv6Addr;
 use wire::ipv6::Ipv6Cidr;
 
@@ -56,4 +62,207 @@ pub enum Source {
 pub enum AddrAt {
     Nothing,
     Is(IfaceAddr),
+}
+
+impl AddrOrigin {
+    fn is_slaac(self) -> bool
+        ensures { λ r. ⌜ r ≡ isSlaac self ⌝ }
+    {
+        match self {
+            AddrOrigin::Manual => false,
+            AddrOrigin::Slaac => true,
+        }
+    }
+}
+
+impl IfaceAddr {
+    // An address assigned by the application.
+    pub fn manual(cidr: Ipv6Cidr) -> IfaceAddr
+        ensures { λ r. ⌜ r ≡ manualAddr cidr ⌝ }
+    {
+        IfaceAddr {
+            cidr: cidr,
+            origin: AddrOrigin::Manual,
+            preferred: Preferred::Always,
+        }
+    }
+}
+
+impl IfaceAddrs {
+    pub fn new() -> IfaceAddrs
+        ensures { λ r. ⌜ r ≡ emptyAddrs ⌝ }
+    {
+        let e = IfaceAddr::manual(Ipv6Cidr {
+            address: Ipv6Addr { hi: 0, lo: 0 },
+            prefix_len: 0,
+        });
+        let s = [e; 8];
+        IfaceAddrs { slots: s, len: 0 }
+    }
+
+    // The application assigns an address.
+    pub fn add_ip_addr(self, iface: u8, cidr: Ipv6Cidr) -> Added
+        ensures { λ r. ⌜ AddedTo self iface cidr r ⌝ }
+    {
+        if let Check::Refused(why) = check_prefix(iface, cidr) {
+            return Added {
+                addrs: self,
+                outcome: Outcome::Refused(why),
+            };
+        }
+        let k = count_of(self.len, 8);
+        let mut i = 0;
+        while i < k {
+            let e = self.slots[i];
+            let c = e.cidr;
+            if c.same(cidr) {
+                return Added {
+                    addrs: self,
+                    outcome: Outcome::Refused(Refusal::Duplicate),
+                };
+            }
+            i += 1;
+        }
+        if k < 8 {
+            let mut t = self;
+            let new = IfaceAddr::manual(cidr);
+            t.slots[k] = new;
+            t.len = k + 1;
+            return Added {
+                addrs: t,
+                outcome: Outcome::Done,
+            };
+        }
+        Added {
+            addrs: self,
+            outcome: Outcome::Refused(Refusal::Full),
+        }
+    }
+
+    // A valid prefix has its address: one that SLAAC installed takes the new preferred time. The application's stays, though
+    // it happens to be the address that this prefix forms.
+    pub fn put_addr(self, cidr: Ipv6Cidr, preferred: Preferred) -> IfaceAddrs
+        ensures { λ r. ⌜ r ≡ withAddrs self (putAddr cidr preferred (addrsOf self)) ⌝ }
+    {
+        let k = count_of(self.len, 8);
+        let mut i = 0;
+        while i < k {
+            let e = self.slots[i];
+            let c = e.cidr;
+            if c.same(cidr) {
+                let mut t = self;
+                t.len = k;
+                let o = e.origin;
+                if o.is_slaac() {
+                    t.slots[i] = IfaceAddr {
+                        cidr: c,
+                        origin: AddrOrigin::Slaac,
+                        preferred: preferred,
+                    };
+                    return t;
+                }
+                return t;
+            }
+            i += 1;
+        }
+        let mut t = self;
+        if k < 8 {
+            t.slots[k] = IfaceAddr {
+                cidr: cidr,
+                origin: AddrOrigin::Slaac,
+                preferred: preferred,
+            };
+            t.len = k + 1;
+            return t;
+        }
+        t.len = k;
+        t
+    }
+
+    // The address of an expired prefix goes, and later ones move down. Only one that SLAAC installed.
+    pub fn drop_addr(self, cidr: Ipv6Cidr) -> IfaceAddrs
+        ensures { λ r. ⌜ r ≡ withAddrs self (dropAddr cidr (addrsOf self)) ⌝ }
+    {
+        let k = count_of(self.len, 8);
+        let mut i = 0;
+        while i < k {
+            let e = self.slots[i];
+            let c = e.cidr;
+            if c.same(cidr) {
+                let mut t = self;
+                let o = e.origin;
+                if o.is_slaac() {
+                    let mut hole = i;
+                    let mut next = i + 1;
+                    while next < k {
+                        let later = t.slots[next];
+                        t.slots[hole] = later;
+                        hole = next;
+                        next += 1;
+                    }
+                    t.len = hole;
+                    return t;
+                }
+                t.len = k;
+                return t;
+            }
+            i += 1;
+        }
+        let mut t = self;
+        t.len = k;
+        t
+    }
+
+    // SLAAC's addresses go, and the others keep their order.
+    pub fn clear_slaac(self) -> Cleared
+        ensures { λ r. ⌜ r ≡ clearAddrs self ⌝ }
+    {
+        let k = count_of(self.len, 8);
+        let mut t = self;
+        let mut w = 0;
+        let mut i = 0;
+        while i < k {
+            let e = t.slots[i];
+            let o = e.origin;
+            i += 1;
+            if !o.is_slaac() {
+                t.slots[w] = e;
+                w += 1;
+            }
+        }
+        t.len = w;
+        Cleared {
+            addrs: t,
+            any: w < k,
+        }
+    }
+
+    // The first link-local address, if there is one.
+    pub fn link_local_ipv6_address(self) -> Source
+        ensures { λ r. ⌜ r ≡ firstLocal (addrsOf self) ⌝ }
+    {
+        let k = count_of(self.len, 8);
+        let mut i = 0;
+        while i < k {
+            let e = self.slots[i];
+            let a = e.cidr.address;
+            if a.is_link_local() {
+                return Source::From(a);
+            }
+            i += 1;
+        }
+        Source::Nothing
+    }
+
+    // The listing, entry by entry.
+    pub fn at(self, index: usize) -> AddrAt
+        ensures { λ r. ⌜ r ≡ addrAt self index ⌝ }
+    {
+        let k = count_of(self.len, 8);
+        if index < k {
+            let e = self.slots[index];
+            return AddrAt::Is(e);
+        }
+        AddrAt::Nothing
+    }
 }

@@ -1,6 +1,13 @@
 // The routes, shared by the interfaces.
+ghost use mathlib.Core.Path.{_≡_};
+ghost use Rattle.iface.specs.AddressRules.{anywhere};
+ghost use Rattle.iface.specs.RouteRules.{routesOf, withRoutes, emptyRoutes, isSlaac, isRoute, isManualRoute, isLearned, isInstalled, manualRoute, AddedRouteTo, putRoute, dropRoute, clearRoutes, routeAt};
 use crate::Outcome;
+use crate::check_prefix;
+use table::count_of;
 use time::Instant;
+use wire::error::Check;
+use wire::error::Refusal;
 use wire::ipv6::Ipv6Addr;
 use wire::ipv6::Ipv6Cidr;
 
@@ -42,4 +49,227 @@ pub struct AddedRoute {
 pub enum RouteAt {
     Nothing,
     Is(Route),
+}
+
+// ::/0
+const IPV6_DEFAULT: Ipv6Cidr = Ipv6Cidr {
+    address: Ipv6Addr { hi: 0, lo: 0 },
+    prefix_len: 0,
+};
+
+impl RouteOrigin {
+    fn is_slaac(self) -> bool
+        ensures { λ r. ⌜ r ≡ isSlaac self ⌝ }
+    {
+        match self {
+            RouteOrigin::Manual => false,
+            RouteOrigin::Slaac => true,
+        }
+    }
+}
+
+impl Route {
+    // A route added by the application, with no expiry.
+    pub fn manual(iface: u8, cidr: Ipv6Cidr, via_router: Ipv6Addr) -> Route
+        ensures { λ r. ⌜ r ≡ manualRoute iface cidr «via_router» ⌝ }
+    {
+        Route {
+            cidr: cidr,
+            via_router: via_router,
+            iface: iface,
+            origin: RouteOrigin::Manual,
+            expires_at: Expiry::Forever,
+        }
+    }
+
+    // Compares this route based on the interface, the prefix and the next hop router.
+    fn same_route(self, iface: u8, cidr: Ipv6Cidr, via_router: Ipv6Addr) -> bool
+        ensures { λ r. ⌜ r ≡ isRoute iface cidr «via_router» self ⌝ }
+    {
+        let c = self.cidr;
+        let v = self.via_router;
+        let i = self.iface == iface;
+        let p = c.same(cidr);
+        let r = v.same(via_router);
+        i & p & r
+    }
+
+    // Whether it is the application's route by that router.
+    fn assigned(self, iface: u8, cidr: Ipv6Cidr, via_router: Ipv6Addr) -> bool
+        ensures { λ r. ⌜ r ≡ isManualRoute iface cidr «via_router» self ⌝ }
+    {
+        let o = self.origin;
+        let s = o.is_slaac();
+        let same = self.same_route(iface, cidr, via_router);
+        !s & same
+    }
+
+    // Whether it is the default route by that router that SLAAC installed on the interface.
+    fn installed(self, iface: u8, via_router: Ipv6Addr) -> bool
+        ensures { λ r. ⌜ r ≡ isInstalled iface «via_router» self ⌝ }
+    {
+        let o = self.origin;
+        let s = o.is_slaac();
+        let same = self.same_route(iface, IPV6_DEFAULT, via_router);
+        s & same
+    }
+
+    // Whether SLAAC learned it on the interface.
+    fn is_learned(self, iface: u8) -> bool
+        ensures { λ r. ⌜ r ≡ isLearned iface self ⌝ }
+    {
+        let o = self.origin;
+        let s = o.is_slaac();
+        let i = self.iface == iface;
+        s & i
+    }
+}
+
+impl Routes {
+    pub fn new() -> Routes
+        ensures { λ r. ⌜ r ≡ emptyRoutes ⌝ }
+    {
+        let e = Route::manual(0, IPV6_DEFAULT, Ipv6Addr { hi: 0, lo: 0 });
+        let s = [e; 8];
+        Routes { slots: s, len: 0 }
+    }
+
+    // The application adds a route.
+    pub fn add_route(self, iface: u8, cidr: Ipv6Cidr, via_router: Ipv6Addr) -> AddedRoute
+        ensures { λ r. ⌜ AddedRouteTo self iface cidr «via_router» r ⌝ }
+    {
+        if let Check::Refused(why) = check_prefix(iface, cidr) {
+            return AddedRoute {
+                routes: self,
+                outcome: Outcome::Refused(why),
+            };
+        }
+        let k = count_of(self.len, 8);
+        let mut i = 0;
+        while i < k {
+            let e = self.slots[i];
+            if e.assigned(iface, cidr, via_router) {
+                return AddedRoute {
+                    routes: self,
+                    outcome: Outcome::Refused(Refusal::Duplicate),
+                };
+            }
+            i += 1;
+        }
+        if k < 8 {
+            let mut t = self;
+            let new = Route::manual(iface, cidr, via_router);
+            t.slots[k] = new;
+            t.len = k + 1;
+            return AddedRoute {
+                routes: t,
+                outcome: Outcome::Done,
+            };
+        }
+        AddedRoute {
+            routes: self,
+            outcome: Outcome::Refused(Refusal::Full),
+        }
+    }
+
+    // A valid router has its default route: one that SLAAC installed on the interface takes the new time. The application's
+    // default route by the same router does not stand in its way.
+    pub fn put_route(self, iface: u8, via_router: Ipv6Addr, expires_at: Instant) -> Routes
+        ensures { λ r. ⌜ r ≡ withRoutes self (putRoute iface «via_router» «expires_at» (routesOf self)) ⌝ }
+    {
+        let k = count_of(self.len, 8);
+        let mut i = 0;
+        while i < k {
+            let e = self.slots[i];
+            if e.installed(iface, via_router) {
+                let c = e.cidr;
+                let v = e.via_router;
+                let mut t = self;
+                t.slots[i] = Route {
+                    cidr: c,
+                    via_router: v,
+                    iface: e.iface,
+                    origin: RouteOrigin::Slaac,
+                    expires_at: Expiry::At(expires_at),
+                };
+                t.len = k;
+                return t;
+            }
+            i += 1;
+        }
+        let mut t = self;
+        if k < 8 {
+            t.slots[k] = Route {
+                cidr: IPV6_DEFAULT,
+                via_router: via_router,
+                iface: iface,
+                origin: RouteOrigin::Slaac,
+                expires_at: Expiry::At(expires_at),
+            };
+            t.len = k + 1;
+            return t;
+        }
+        t.len = k;
+        t
+    }
+
+    // The default route by an expired router goes, and later ones move down. Only one that SLAAC installed on the interface.
+    pub fn drop_route(self, iface: u8, via_router: Ipv6Addr) -> Routes
+        ensures { λ r. ⌜ r ≡ withRoutes self (dropRoute iface «via_router» (routesOf self)) ⌝ }
+    {
+        let k = count_of(self.len, 8);
+        let mut i = 0;
+        while i < k {
+            let e = self.slots[i];
+            if e.installed(iface, via_router) {
+                let mut t = self;
+                let mut hole = i;
+                let mut next = i + 1;
+                while next < k {
+                    let later = t.slots[next];
+                    t.slots[hole] = later;
+                    hole = next;
+                    next += 1;
+                }
+                t.len = hole;
+                return t;
+            }
+            i += 1;
+        }
+        let mut t = self;
+        t.len = k;
+        t
+    }
+
+    // SLAAC's routes of the interface go, and the others keep their order.
+    pub fn clear_slaac(self, iface: u8) -> Routes
+        ensures { λ r. ⌜ r ≡ withRoutes self (clearRoutes iface (routesOf self)) ⌝ }
+    {
+        let k = count_of(self.len, 8);
+        let mut t = self;
+        let mut w = 0;
+        let mut i = 0;
+        while i < k {
+            let e = t.slots[i];
+            i += 1;
+            if !e.is_learned(iface) {
+                t.slots[w] = e;
+                w += 1;
+            }
+        }
+        t.len = w;
+        t
+    }
+
+    // The listing, entry by entry.
+    pub fn at(self, index: usize) -> RouteAt
+        ensures { λ r. ⌜ r ≡ routeAt self index ⌝ }
+    {
+        let k = count_of(self.len, 8);
+        if index < k {
+            let e = self.slots[index];
+            return RouteAt::Is(e);
+        }
+        RouteAt::Nothing
+    }
 }

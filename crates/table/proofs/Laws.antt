@@ -1,8 +1,10 @@
 -- Laws of any table: `s` the slots, `n` the field `len`, `k` the number of entries.
-use Prim.Native.Nat.{ℕ, suc, zero, _+_, _-_, _<_, _≤_, min}
+use Prim.Native.Nat.{ℕ, suc, zero, _+_, _-_, _<_, _≤_, min, compare·suc-suc}
+use borrow.Author.Tests.{lt-ltb, le-ltb}
+use lib.Dec.{ltb}
 use lib.ListN.{length, take, drop, getD, set, length-take, length-map, length-set, length-append, take-append-drop, drop-of-length-le}
 use lib.Seq.{drop-cons, take-suc, take-all, set-split, getD-take, getD-drop, take-set-lt, drop-set-lt, take-suc-set, take-take, set-getD, drop-drop, length-take-le}
-use mathlib.Core.Bool.{Bool, true, false}
+use mathlib.Core.Bool.{Bool, true, false, cond}
 use mathlib.Core.List.{List, [], _∷_, _++_, map, append-assoc, append-nil}
 use mathlib.Core.Logic.{⊎-elim}
 use mathlib.Core.Path.{_≡_, refl, ap, ap₂, sym, _∙_}
@@ -557,3 +559,34 @@ module _ {A : Type 0} (d : A) {size : ℕ} {f : A → A} {s₀ : List A} {n k : 
       let p : take i s ≡ map f es = sym (append-nil (take i s)) ∙ (simp (drop-of-length-le es l) at (inv .done)) in
       let c : length (map f es) ≡ i = length-map es f ∙ omega (arith, inv .count) in
       record { slots = made s₀ s (map f es) i c p (inv .rest); count = sym (c ∙ e) }
+
+-- The entry at an index, for a listing
+module _ {A B : Type 0} (d : A) (f : A → B) (none : B) (s : List A) (n size k i : ℕ) (full : length s ≡ size) (e : k ≡ min n size) where
+  pub at-entry : i < k → f (getD s i d) ≡ cond (ltb i (length (take n s))) (f (getD (take n s) i d)) none
+  at-entry h =
+      let l : i < length (take n s) = omega (arith, counted s n size k full e) in
+      rw (lt-ltb i (length (take n s)) l, entry-at d s n i l)
+
+  pub at-none : k ≤ i → none ≡ cond (ltb i (length (take n s))) (f (getD (take n s) i d)) none
+  at-none h =
+      let l : length (take n s) ≤ i = omega (arith, counted s n size k full e) in
+      rw (le-ltb i (length (take n s)) l)
+
+-- Fewer are kept exactly if some are gone
+module _ {A : Type 0} (gone : A → Bool) where
+  most-step : (b : Bool) (x : A) (ys xs : List A) → length ys ≤ length xs → length (cond b ys (x ∷ ys)) ≤ length (x ∷ xs)
+  most-step true x ys xs h = omega arith
+  most-step false x ys xs h = omega arith
+
+  kept-most : (es : List A) → length (kept gone es) ≤ length es
+  kept-most [] = omega arith
+  kept-most (x ∷ xs) = most-step (gone x) x (kept gone xs) xs (kept-most xs)
+
+  fewer-step : (b any : Bool) (x : A) (ys xs : List A) → length ys ≤ length xs → ltb (length ys) (length xs) ≡ any
+      → ltb (length (cond b ys (x ∷ ys))) (length (x ∷ xs)) ≡ cond b true any
+  fewer-step true any x ys xs h e = lt-ltb (length ys) (length (x ∷ xs)) (omega arith)
+  fewer-step false any x ys xs h e = rw compare·suc-suc e
+
+  pub fewer : (es : List A) → ltb (length (kept gone es)) (length es) ≡ anyOf gone es
+  fewer [] = refl
+  fewer (x ∷ xs) = fewer-step (gone x) (anyOf gone xs) x (kept gone xs) xs (kept-most xs) (fewer xs)

@@ -1,0 +1,118 @@
+-- Laws of the table of addresses: what each arm of a call leaves is what its rule says. Assumes nothing.
+use Prim.Native.Nat.{ℕ, _+_, _<_, _≤_}
+use lib.Dec.{ltb}
+use lib.ListN.{length, length-append, getD, set}
+use mathlib.Core.Bool.{Bool, true, false}
+use mathlib.Core.List.{List, [], _∷_, _++_}
+use mathlib.Core.Path.{_≡_, refl, ap, ap₂, sym, _∙_}
+use native.Mathlib.Omega.{arith}
+use Rattle.iface.proofs.Checks.{refused-first, is-duplicate, is-full, is-fine, room, no-room}
+use Rattle.iface.specs.AddressRules.{addrsOf, withAddrs, noAddr, isAddr, isFromSlaac, manualAddr, addrCheck, addAddrBy, AddedTo, slaacAddr, refreshed, putAddr, gone, dropAddr, clearAddrs}
+use Rattle.iface.specs.Answers.{duplicate, noRoom, ifRoom, prefixTooLong}
+use Rattle.iface.specs.declared.Outcome.the-variants.{Refused, Done}
+use Rattle.iface.specs.declared.addr.Cleared.{Cleared}
+use Rattle.iface.specs.declared.addr.IfaceAddr.{IfaceAddr}
+use Rattle.iface.specs.declared.addr.IfaceAddrs.{IfaceAddrs}
+use Rattle.iface.specs.declared.addr.Preferred.{Preferred}
+use Rattle.table.proofs.Laws.{Made, at-end, Compacting, compacted, fewer, Finding, found-over, found-stays, found-goes, found-any, absent-end, absent-stays, absent-any}
+use Rattle.table.specs.Table.{without, anyOf}
+use Rattle.wire.specs.Refusals.{firstRefusal, checkNumber, noSuchIface}
+use Rattle.wire.specs.declared.error.Check.the-variants.{Fine, Refused as Fails}
+use Rattle.wire.specs.declared.error.Check.{Check}
+use Rattle.wire.specs.declared.error.Refusal.the-variants.{Duplicate, Full}
+use Rattle.wire.specs.declared.error.Refusal.{Refusal}
+use Rattle.wire.specs.declared.ipv6.Ipv6Cidr.{Ipv6Cidr}
+
+pub addrs-made : (t : IfaceAddrs) (es s : List IfaceAddr) (n : ℕ) → Made (t .slots) es s n
+    → _≡_ {A = IfaceAddrs} (record { slots = s; len = n }) (withAddrs t es)
+addrs-made t es s n m = ap₂ (λ (a : List IfaceAddr) (b : ℕ). record { slots = a; len = b }) (m .slots) (m .count)
+
+-- the loop that looks for an address, to refuse it or to drop it
+abbrev pub Seek : IfaceAddrs → Ipv6Cidr → ℕ → ℕ → Type 0
+Seek t c k i = Finding 8 (isAddr c) gone [] (t .slots) (t .len) k i
+
+-- The application's call
+
+module _ (t : IfaceAddrs) (iface : ℕ) (c : Ipv6Cidr) (x : Check) (e : x ≡ firstRefusal (noSuchIface iface ∷ prefixTooLong c ∷ [])) where
+  refuses : (why : Refusal) → addrCheck iface c (addrsOf t) ≡ Fails why → AddedTo t iface c (record { addrs = t; outcome = Refused why })
+  refuses why z = record { is = sym (ap (λ (y : Check). addAddrBy y t c) z); number = sym (ap checkNumber z) }
+
+  pub add-refused : (why : Refusal) → x ≡ Fails why → AddedTo t iface c (record { addrs = t; outcome = Refused why })
+  add-refused why f =
+      refuses why (refused-first (noSuchIface iface ∷ prefixTooLong c ∷ []) (duplicate (anyOf (isAddr c) (addrsOf t)) ∷ noRoom 8 (addrsOf t) ∷ []) why (sym e ∙ f))
+
+  module _ (f : x ≡ Fine) (k i : ℕ) (inv : Seek t c k i) where
+    pub add-duplicate : i < k → isAddr c (getD (t .slots) i noAddr) ≡ true → AddedTo t iface c (record { addrs = t; outcome = Refused Duplicate })
+    add-duplicate h g =
+        refuses Duplicate
+        (is-duplicate (noSuchIface iface ∷ prefixTooLong c ∷ []) _ (addrsOf t) k (inv .count) (sym e ∙ f) (found-any noAddr inv h g))
+
+    pub add-full : k ≤ i → 8 ≤ k → AddedTo t iface c (record { addrs = t; outcome = Refused Full })
+    add-full h l =
+        refuses Full
+        (is-full (noSuchIface iface ∷ prefixTooLong c ∷ []) _ (addrsOf t) k (inv .count) (sym e ∙ f) (absent-any noAddr inv h) l)
+
+    pub add-end : (y : IfaceAddr) → y ≡ manualAddr c → k ≤ i → k < 8
+        → AddedTo t iface c (record { addrs = record { slots = set (t .slots) k y; len = k + 1 }; outcome = Done })
+    add-end y q h l =
+        let z : addrCheck iface c (addrsOf t) ≡ Fine =
+        is-fine (noSuchIface iface ∷ prefixTooLong c ∷ []) _ (addrsOf t) k (inv .count) (sym e ∙ f) (absent-any noAddr inv h) l in
+        let n : k + 1 ≡ length (addrsOf t ++ (manualAddr c ∷ [])) = simp length-append (omega (arith, inv .count)) in
+        let s : set (t .slots) k y ≡ _ = ap (λ (w : IfaceAddr). set (t .slots) k w) q ∙ at-end (t .slots) (t .len) k (inv .count) (manualAddr c) (omega (arith, inv .full)) in
+        let m : Made (t .slots) (addrsOf t ++ (manualAddr c ∷ [])) (set (t .slots) k y) (k + 1) = record { slots = s; count = n } in
+        record {
+          is =
+              ap (λ (a : IfaceAddrs). record { addrs = a; outcome = Done }) (addrs-made t _ _ (k + 1) m)
+              ∙ sym (ap (λ (y : Check). addAddrBy y t c) z);
+          number = sym (ap checkNumber z);
+        }
+
+-- SLAAC's calls
+
+abbrev pub PutSeek : IfaceAddrs → Ipv6Cidr → Preferred → ℕ → ℕ → Type 0
+PutSeek t c p k i = Finding 8 (isAddr c) (refreshed p) (ifRoom 8 (addrsOf t) (slaacAddr c p)) (t .slots) (t .len) k i
+
+module _ (t : IfaceAddrs) (c : Ipv6Cidr) (p : Preferred) (k i : ℕ) (inv : PutSeek t c p k i) where
+  pub put-over : i < k → isAddr c (getD (t .slots) i noAddr) ≡ true → isFromSlaac (getD (t .slots) i noAddr) ≡ true
+      → _≡_ {A = IfaceAddrs} (record { slots = set (t .slots) i (slaacAddr (getD (t .slots) i noAddr .cidr) p); len = k })
+      (withAddrs t (putAddr c p (addrsOf t)))
+  unfolding putAddr
+  put-over h g o = addrs-made t _ _ k (found-over noAddr inv h g _ (simp o))
+
+  pub put-stays : i < k → isAddr c (getD (t .slots) i noAddr) ≡ true → isFromSlaac (getD (t .slots) i noAddr) ≡ false
+      → _≡_ {A = IfaceAddrs} (record { slots = t .slots; len = k }) (withAddrs t (putAddr c p (addrsOf t)))
+  unfolding putAddr
+  put-stays h g o = addrs-made t _ _ k (found-stays noAddr inv h g (simp o))
+
+  pub put-end : k ≤ i → k < 8
+      → _≡_ {A = IfaceAddrs} (record { slots = set (t .slots) k (slaacAddr c p); len = k + 1 }) (withAddrs t (putAddr c p (addrsOf t)))
+  unfolding putAddr
+  put-end h l = addrs-made t _ _ (k + 1) (absent-end noAddr inv h (slaacAddr c p) l (room 8 (addrsOf t) (slaacAddr c p) k (inv .count) l))
+
+  pub put-full : k ≤ i → 8 ≤ k → _≡_ {A = IfaceAddrs} (record { slots = t .slots; len = k }) (withAddrs t (putAddr c p (addrsOf t)))
+  unfolding putAddr
+  put-full h l = addrs-made t _ _ k (absent-stays noAddr inv h (no-room 8 (addrsOf t) (slaacAddr c p) k (inv .count) l))
+
+module _ (t : IfaceAddrs) (c : Ipv6Cidr) (k i : ℕ) (inv : Seek t c k i) where
+  pub drop-out : (s : List IfaceAddr) (n : ℕ) → i < k → isAddr c (getD (t .slots) i noAddr) ≡ true → isFromSlaac (getD (t .slots) i noAddr) ≡ true
+      → Made (t .slots) (without (addrsOf t) i) s n
+      → _≡_ {A = IfaceAddrs} (record { slots = s; len = n }) (withAddrs t (dropAddr c (addrsOf t)))
+  unfolding dropAddr
+  drop-out s n h g o m = addrs-made t _ s n m ∙ ap (λ (es : List IfaceAddr). withAddrs t es) (found-goes noAddr inv h g (simp o))
+
+  pub drop-stays : i < k → isAddr c (getD (t .slots) i noAddr) ≡ true → isFromSlaac (getD (t .slots) i noAddr) ≡ false
+      → _≡_ {A = IfaceAddrs} (record { slots = t .slots; len = k }) (withAddrs t (dropAddr c (addrsOf t)))
+  unfolding dropAddr
+  drop-stays h g o = addrs-made t _ _ k (found-stays noAddr inv h g (simp o))
+
+  pub drop-none : k ≤ i → _≡_ {A = IfaceAddrs} (record { slots = t .slots; len = k }) (withAddrs t (dropAddr c (addrsOf t)))
+  unfolding dropAddr
+  drop-none h = addrs-made t _ _ k (absent-stays noAddr inv h refl)
+
+pub addrs-cleared : (t : IfaceAddrs) (s : List IfaceAddr) (k w i : ℕ) → Compacting 8 isFromSlaac (t .slots) (t .len) k s w i → k ≤ i
+    → _≡_ {A = Cleared} (record { addrs = record { slots = s; len = w }; any = ltb w k }) (clearAddrs t)
+unfolding clearAddrs
+addrs-cleared t s k w i inv h =
+    let m = compacted noAddr inv h in
+    ap₂ (λ (a : IfaceAddrs) (b : Bool). record { addrs = a; any = b }) (addrs-made t _ s w m)
+    (ap₂ (λ (a b : ℕ). ltb a b) (m .count) (inv .count) ∙ fewer isFromSlaac (addrsOf t))

@@ -1,0 +1,112 @@
+-- Laws of the table of routes: what each arm of a call leaves is what its rule says. Assumes nothing.
+use Prim.Native.Nat.{ℕ, _+_, _<_, _≤_}
+use lib.ListN.{length, length-append, getD, set}
+use mathlib.Core.Bool.{true}
+use mathlib.Core.List.{List, [], _∷_, _++_}
+use mathlib.Core.Path.{_≡_, refl, ap, ap₂, sym, _∙_}
+use native.Mathlib.Omega.{arith}
+use Rattle.iface.proofs.Checks.{refused-first, is-duplicate, is-full, is-fine, room, no-room}
+use Rattle.iface.specs.Answers.{duplicate, noRoom, ifRoom, prefixTooLong}
+use Rattle.iface.specs.RouteRules.{routesOf, withRoutes, noRoute, isManualRoute, manualRoute, routeCheck, addRouteBy, AddedRouteTo, isLearned, isInstalled, slaacRoute, extended, noneLeft, putRoute, dropRoute, clearRoutes}
+use Rattle.iface.specs.declared.Outcome.the-variants.{Refused, Done}
+use Rattle.iface.specs.declared.route.Expiry.the-variants.{At}
+use Rattle.iface.specs.declared.route.Route.{Route}
+use Rattle.iface.specs.declared.route.RouteOrigin.the-variants.{Slaac}
+use Rattle.iface.specs.declared.route.Routes.{Routes}
+use Rattle.table.proofs.Laws.{Made, at-end, Compacting, compacted, Finding, found-over, found-goes, found-any, absent-end, absent-stays, absent-any}
+use Rattle.table.specs.Table.{without, anyOf}
+use Rattle.time.specs.declared.Instant.{Instant}
+use Rattle.wire.specs.Refusals.{firstRefusal, checkNumber, noSuchIface}
+use Rattle.wire.specs.declared.error.Check.the-variants.{Fine, Refused as Fails}
+use Rattle.wire.specs.declared.error.Check.{Check}
+use Rattle.wire.specs.declared.error.Refusal.the-variants.{Duplicate, Full}
+use Rattle.wire.specs.declared.error.Refusal.{Refusal}
+use Rattle.wire.specs.declared.ipv6.Ipv6Addr.{Ipv6Addr}
+use Rattle.wire.specs.declared.ipv6.Ipv6Cidr.{Ipv6Cidr}
+
+pub routes-made : (t : Routes) (es s : List Route) (n : ℕ) → Made (t .slots) es s n
+    → _≡_ {A = Routes} (record { slots = s; len = n }) (withRoutes t es)
+routes-made t es s n m = ap₂ (λ (a : List Route) (b : ℕ). record { slots = a; len = b }) (m .slots) (m .count)
+
+-- The application's call
+
+abbrev pub AddSeek : Routes → ℕ → Ipv6Cidr → Ipv6Addr → ℕ → ℕ → Type 0
+AddSeek t iface c via k i = Finding 8 (isManualRoute iface c via) noneLeft [] (t .slots) (t .len) k i
+
+module _ (t : Routes) (iface : ℕ) (c : Ipv6Cidr) (via : Ipv6Addr) (x : Check) (e : x ≡ firstRefusal (noSuchIface iface ∷ prefixTooLong c ∷ [])) where
+  refuses : (why : Refusal) → routeCheck iface c via (routesOf t) ≡ Fails why
+      → AddedRouteTo t iface c via (record { routes = t; outcome = Refused why })
+  refuses why z = record { is = sym (ap (λ (y : Check). addRouteBy y t (manualRoute iface c via)) z); number = sym (ap checkNumber z) }
+
+  pub add-refused : (why : Refusal) → x ≡ Fails why → AddedRouteTo t iface c via (record { routes = t; outcome = Refused why })
+  add-refused why f =
+      refuses why (refused-first (noSuchIface iface ∷ prefixTooLong c ∷ []) (duplicate (anyOf (isManualRoute iface c via) (routesOf t)) ∷ noRoom 8 (routesOf t) ∷ []) why (sym e ∙ f))
+
+  module _ (f : x ≡ Fine) (k i : ℕ) (inv : AddSeek t iface c via k i) where
+    pub add-duplicate : i < k → isManualRoute iface c via (getD (t .slots) i noRoute) ≡ true
+        → AddedRouteTo t iface c via (record { routes = t; outcome = Refused Duplicate })
+    add-duplicate h g =
+        refuses Duplicate
+        (is-duplicate (noSuchIface iface ∷ prefixTooLong c ∷ []) _ (routesOf t) k (inv .count) (sym e ∙ f) (found-any noRoute inv h g))
+
+    pub add-full : k ≤ i → 8 ≤ k → AddedRouteTo t iface c via (record { routes = t; outcome = Refused Full })
+    add-full h l =
+        refuses Full
+        (is-full (noSuchIface iface ∷ prefixTooLong c ∷ []) _ (routesOf t) k (inv .count) (sym e ∙ f) (absent-any noRoute inv h) l)
+
+    pub add-end : (y : Route) → y ≡ manualRoute iface c via → k ≤ i → k < 8
+        → AddedRouteTo t iface c via (record { routes = record { slots = set (t .slots) k y; len = k + 1 }; outcome = Done })
+    add-end y q h l =
+        let new : Route = manualRoute iface c via in
+        let z : routeCheck iface c via (routesOf t) ≡ Fine =
+        is-fine (noSuchIface iface ∷ prefixTooLong c ∷ []) _ (routesOf t) k (inv .count) (sym e ∙ f) (absent-any noRoute inv h) l in
+        let n : k + 1 ≡ length (routesOf t ++ (new ∷ [])) = simp length-append (omega (arith, inv .count)) in
+        let s : set (t .slots) k y ≡ _ = ap (λ (w : Route). set (t .slots) k w) q ∙ at-end (t .slots) (t .len) k (inv .count) new (omega (arith, inv .full)) in
+        let m : Made (t .slots) (routesOf t ++ (new ∷ [])) (set (t .slots) k y) (k + 1) = record { slots = s; count = n } in
+        record {
+          is =
+              ap (λ (a : Routes). record { routes = a; outcome = Done }) (routes-made t _ _ (k + 1) m)
+              ∙ sym (ap (λ (y : Check). addRouteBy y t new) z);
+          number = sym (ap checkNumber z);
+        }
+
+-- SLAAC's calls
+
+abbrev pub PutSeek : Routes → ℕ → Ipv6Addr → Instant → ℕ → ℕ → Type 0
+PutSeek t iface via u k i =
+    Finding 8 (isInstalled iface via) (extended u) (ifRoom 8 (routesOf t) (slaacRoute iface via u)) (t .slots) (t .len) k i
+
+module _ (t : Routes) (iface : ℕ) (via : Ipv6Addr) (u : Instant) (k i : ℕ) (inv : PutSeek t iface via u k i) where
+  pub put-over : i < k → isInstalled iface via (getD (t .slots) i noRoute) ≡ true
+      → _≡_ {A = Routes} (record { slots = set (t .slots) i (record { cidr = getD (t .slots) i noRoute .cidr; «via_router» = getD (t .slots) i noRoute .«via_router»; iface = getD (t .slots) i noRoute .iface; origin = Slaac; «expires_at» = At u }); len = k })
+      (withRoutes t (putRoute iface via u (routesOf t)))
+  unfolding putRoute
+  put-over h g = routes-made t _ _ k (found-over noRoute inv h g _ refl)
+
+  pub put-end : k ≤ i → k < 8
+      → _≡_ {A = Routes} (record { slots = set (t .slots) k (slaacRoute iface via u); len = k + 1 }) (withRoutes t (putRoute iface via u (routesOf t)))
+  unfolding putRoute
+  put-end h l = routes-made t _ _ (k + 1) (absent-end noRoute inv h _ l (room 8 (routesOf t) _ k (inv .count) l))
+
+  pub put-full : k ≤ i → 8 ≤ k → _≡_ {A = Routes} (record { slots = t .slots; len = k }) (withRoutes t (putRoute iface via u (routesOf t)))
+  unfolding putRoute
+  put-full h l = routes-made t _ _ k (absent-stays noRoute inv h (no-room 8 (routesOf t) _ k (inv .count) l))
+
+abbrev pub DropSeek : Routes → ℕ → Ipv6Addr → ℕ → ℕ → Type 0
+DropSeek t iface via k i = Finding 8 (isInstalled iface via) noneLeft [] (t .slots) (t .len) k i
+
+module _ (t : Routes) (iface : ℕ) (via : Ipv6Addr) (k i : ℕ) (inv : DropSeek t iface via k i) where
+  pub drop-out : (s : List Route) (n : ℕ) → i < k → isInstalled iface via (getD (t .slots) i noRoute) ≡ true
+      → Made (t .slots) (without (routesOf t) i) s n
+      → _≡_ {A = Routes} (record { slots = s; len = n }) (withRoutes t (dropRoute iface via (routesOf t)))
+  unfolding dropRoute
+  drop-out s n h g m = routes-made t _ s n m ∙ ap (λ (es : List Route). withRoutes t es) (found-goes noRoute inv h g refl)
+
+  pub drop-none : k ≤ i → _≡_ {A = Routes} (record { slots = t .slots; len = k }) (withRoutes t (dropRoute iface via (routesOf t)))
+  unfolding dropRoute
+  drop-none h = routes-made t _ _ k (absent-stays noRoute inv h refl)
+
+pub routes-cleared : (t : Routes) (iface : ℕ) (s : List Route) (k w i : ℕ) → Compacting 8 (isLearned iface) (t .slots) (t .len) k s w i → k ≤ i
+    → _≡_ {A = Routes} (record { slots = s; len = w }) (withRoutes t (clearRoutes iface (routesOf t)))
+unfolding clearRoutes
+routes-cleared t iface s k w i inv h = routes-made t _ s w (compacted noRoute inv h)

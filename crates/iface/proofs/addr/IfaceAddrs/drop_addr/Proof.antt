@@ -1,0 +1,118 @@
+use Prim.Native.Nat.{_-_}
+use borrow.Author.Needs.{needs}
+use lib.ListN.{length}
+use mathlib.Core.Path.{_≡_, sym, _∙_}
+use Rattle.iface.proofs.Addresses.{Seek, drop-out, drop-stays, drop-none}
+use Rattle.iface.specs.AddressRules.{noAddr}
+use Rattle.table.proofs.Laws.{mapped, finding, find-next, Moving, moving, move-on, moved}
+use Rattle.iface.proofs.addr.IfaceAddrs.drop_addr.Statement.{statement}
+use Rattle.iface.proofs.addr.IfaceAddrs.drop_addr.Tie as tie
+
+abbrev Inv-loop2 : tie.InvT-loop2
+Inv-loop2 k i t₀ hole₀ next₀ t hole next = Moving 8 (t₀ .slots) (t₀ .len) i k (t .slots) hole next
+
+abbrev μ-loop2 : tie.MeasureT-loop2
+μ-loop2 k i t₀ hole₀ next₀ t hole next = k - next
+
+abbrev Inv-loop : tie.InvT-loop
+Inv-loop cidr self k i₀ i = Seek self cidr k i
+
+abbrev μ-loop : tie.MeasureT-loop
+μ-loop cidr self k i₀ i = k - i
+
+count-of-requires : tie.Need-count-of-requires Inv-loop2 μ-loop2 Inv-loop μ-loop
+count-of-requires c κs = search needs
+
+loop-holds : tie.Need-loop-holds Inv-loop2 μ-loop2 Inv-loop μ-loop
+loop-holds c = let t = c .before .args .t1 in
+    let full : length (t .slots) ≡ 8 = search (needs, mapped) in
+    finding 8 _ _ _ (t .slots) (t .len) _ full (c .count-of .ensures)
+
+mul-e : tie.Need-mul-e Inv-loop2 μ-loop2 Inv-loop μ-loop
+mul-e c = search needs
+
+element-copy-out-e : tie.Need-element-copy-out-e Inv-loop2 μ-loop2 Inv-loop μ-loop
+element-copy-out-e c = search needs
+
+same-requires : tie.Need-same-requires Inv-loop2 μ-loop2 Inv-loop μ-loop
+same-requires c κs = search needs
+
+is-slaac-requires : tie.Need-is-slaac-requires Inv-loop2 μ-loop2 Inv-loop μ-loop
+is-slaac-requires c κs = search needs
+
+add-next : tie.Need-add-next Inv-loop2 μ-loop2 Inv-loop μ-loop
+add-next c = search needs
+
+loop2-holds : tie.Need-loop2-holds Inv-loop2 μ-loop2 Inv-loop μ-loop
+loop2-holds c = let t = c .before .before .before .before .before .before .before .before .before .args .t1 in
+    let full : length (t .slots) ≡ 8 = search (needs, mapped) in
+    moving 8 (t .slots) (t .len) _ _ full (c .before .before .before .before .before .before .before .before .count-of .ensures) (c .before .before .before .before .before .before .loop-test .taken)
+
+mul-later : tie.Need-mul-later Inv-loop2 μ-loop2 Inv-loop μ-loop
+mul-later c = search needs
+
+element-copy-out-later : tie.Need-element-copy-out-later Inv-loop2 μ-loop2 Inv-loop μ-loop
+element-copy-out-later c = search needs
+
+mul-later-2 : tie.Need-mul-later-2 Inv-loop2 μ-loop2 Inv-loop μ-loop
+mul-later-2 c = search needs
+
+element-set-from-later : tie.Need-element-set-from-later Inv-loop2 μ-loop2 Inv-loop μ-loop
+element-set-from-later c = search needs
+
+add-next-2 : tie.Need-add-next-2 Inv-loop2 μ-loop2 Inv-loop μ-loop
+add-next-2 c = search needs
+
+loop2-less : tie.Need-loop2-less Inv-loop2 μ-loop2 Inv-loop μ-loop
+loop2-less c = search needs
+
+loop2-again : tie.Need-loop2-again Inv-loop2 μ-loop2 Inv-loop μ-loop
+loop2-again c = move-on noAddr (c .before .before .loop2 .inv) (c .before .loop2-test .taken)
+
+returns : tie.Need-returns Inv-loop2 μ-loop2 Inv-loop μ-loop
+returns c = drop-out _ _ _ _ (c .before .before .before .before .before .before .before .before .before .loop .inv) _ _ (c .before .before .before .before .before .before .before .before .loop-test .taken) (sym (c .before .before .before .before .before .same .ensures) ∙ c .before .before .before .before .if1 .taken) (sym (c .before .before .before .is-slaac .ensures) ∙ c .before .before .if2 .taken) (moved noAddr (c .before .loop2 .inv) (c .loop2-test .left))
+
+returns-2 : tie.Need-returns-2 Inv-loop2 μ-loop2 Inv-loop μ-loop
+returns-2 c = drop-stays _ _ _ _ (c .before .before .before .before .before .before .before .loop .inv) (c .before .before .before .before .before .before .loop-test .taken) (sym (c .before .before .before .same .ensures) ∙ c .before .before .if1 .taken) (sym (c .before .is-slaac .ensures) ∙ c .if2 .left)
+
+add-i : tie.Need-add-i Inv-loop2 μ-loop2 Inv-loop μ-loop
+add-i c = search needs
+
+loop-less : tie.Need-loop-less Inv-loop2 μ-loop2 Inv-loop μ-loop
+loop-less c = search needs
+
+loop-again : tie.Need-loop-again Inv-loop2 μ-loop2 Inv-loop μ-loop
+loop-again c = find-next noAddr (c .before .before .before .before .before .loop .inv) (c .before .before .before .before .loop-test .taken) (sym (c .before .same .ensures) ∙ c .if1 .left)
+
+returns-3 : tie.Need-returns-3 Inv-loop2 μ-loop2 Inv-loop μ-loop
+returns-3 c = drop-none _ _ _ _ (c .before .loop .inv) (c .loop-test .left)
+
+pub drop-addr-spec : {M : Type 1} → statement M
+drop-addr-spec =
+    tie.close
+    (tie.spec
+    Inv-loop2
+    μ-loop2
+    Inv-loop
+    μ-loop
+    count-of-requires
+    loop-holds
+    mul-e
+    element-copy-out-e
+    same-requires
+    is-slaac-requires
+    add-next
+    loop2-holds
+    mul-later
+    element-copy-out-later
+    mul-later-2
+    element-set-from-later
+    add-next-2
+    loop2-less
+    loop2-again
+    returns
+    returns-2
+    add-i
+    loop-less
+    loop-again
+    returns-3)

@@ -1,0 +1,88 @@
+use Prim.Native.Nat.{_-_}
+use borrow.Author.Needs.{needs}
+use lib.ListN.{length}
+use mathlib.Core.Path.{_≡_, sym, _∙_}
+use Rattle.iface.proofs.Routes.{PutSeek, put-over, put-end, put-full}
+use Rattle.iface.specs.RouteRules.{noRoute}
+use Rattle.table.proofs.Laws.{mapped, finding, find-next}
+use Rattle.iface.proofs.route.Routes.put_route.Statement.{statement}
+use Rattle.iface.proofs.route.Routes.put_route.Tie as tie
+
+abbrev Inv-loop : tie.InvT-loop
+Inv-loop iface via-router expires-at self k i₀ i = PutSeek self iface via-router expires-at k i
+
+abbrev μ-loop : tie.MeasureT-loop
+μ-loop iface via-router expires-at self k i₀ i = k - i
+
+count-of-requires : tie.Need-count-of-requires Inv-loop μ-loop
+count-of-requires c κs = search needs
+
+loop-holds : tie.Need-loop-holds Inv-loop μ-loop
+loop-holds c = let t = c .before .args .t1 in
+    let full : length (t .slots) ≡ 8 = search (needs, mapped) in
+    finding 8 _ _ _ (t .slots) (t .len) _ full (c .count-of .ensures)
+
+mul-e : tie.Need-mul-e Inv-loop μ-loop
+mul-e c = search needs
+
+element-copy-out-e : tie.Need-element-copy-out-e Inv-loop μ-loop
+element-copy-out-e c = search needs
+
+installed-requires : tie.Need-installed-requires Inv-loop μ-loop
+installed-requires c κs = search needs
+
+mul-t24 : tie.Need-mul-t24 Inv-loop μ-loop
+mul-t24 c = search needs
+
+element-set-from-t : tie.Need-element-set-from-t Inv-loop μ-loop
+element-set-from-t c = search needs
+
+returns : tie.Need-returns Inv-loop μ-loop
+returns c = put-over _ _ _ _ _ _ (c .before .before .before .before .before .before .loop .inv) (c .before .before .before .before .before .loop-test .taken) (sym (c .before .before .before .installed .ensures) ∙ c .before .before .if1 .taken)
+
+add-i : tie.Need-add-i Inv-loop μ-loop
+add-i c = search needs
+
+loop-less : tie.Need-loop-less Inv-loop μ-loop
+loop-less c = search needs
+
+loop-again : tie.Need-loop-again Inv-loop μ-loop
+loop-again c = find-next noRoute (c .before .before .before .before .loop .inv) (c .before .before .before .loop-test .taken) (sym (c .before .installed .ensures) ∙ c .if1 .left)
+
+mul-t34 : tie.Need-mul-t34 Inv-loop μ-loop
+mul-t34 c = search needs
+
+element-set-from-t-2 : tie.Need-element-set-from-t-2 Inv-loop μ-loop
+element-set-from-t-2 c = search needs
+
+add-t : tie.Need-add-t Inv-loop μ-loop
+add-t c = search needs
+
+returns-2 : tie.Need-returns-2 Inv-loop μ-loop
+returns-2 c = put-end _ _ _ _ _ _ (c .before .before .loop .inv) (c .before .loop-test .left) (c .if2 .taken)
+
+returns-3 : tie.Need-returns-3 Inv-loop μ-loop
+returns-3 c = put-full _ _ _ _ _ _ (c .before .before .loop .inv) (c .before .loop-test .left) (c .if2 .left)
+
+pub put-route-spec : {M : Type 1} → statement M
+put-route-spec =
+    tie.close
+    (tie.spec
+    Inv-loop
+    μ-loop
+    count-of-requires
+    loop-holds
+    mul-e
+    element-copy-out-e
+    installed-requires
+    mul-t24
+    element-set-from-t
+    returns
+    add-i
+    loop-less
+    loop-again
+    mul-t34
+    element-set-from-t-2
+    add-t
+    returns-2
+    returns-3)
