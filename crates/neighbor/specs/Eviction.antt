@@ -1,12 +1,11 @@
--- Document 01, "Neighbour cache": which entry a full table evicts, and where a key's entry stands, said of a place and not as a scan.
--- proofs/Eviction.antt and proofs/Finding.antt show that `victim` and `find` are these places, and no others are. Assumes nothing.
+-- Document 01, "Neighbour cache": which entry a full table evicts, said of its place and not as a scan. proofs/Eviction.antt shows
+-- that `victim` is such a place, and that no other is. Assumes nothing.
 use Prim.Native.Nat.{ℕ, _≤_, _<_}
 use mathlib.Core.Path.{_≡_}
-use mathlib.Core.Bool.{true, false}
 use lib.ListN.{length, getD}
 use Rattle.neighbor.specs.declared.State.{State}
 use Rattle.neighbor.specs.CacheCalls.{blank}
-use Rattle.neighbor.specs.NeighborRules.{Table, Key, isKey, kind, time}
+use Rattle.neighbor.specs.NeighborRules.{Table, kind, time}
 
 -- the state of the entry at a place
 abbrev pub stateAt : Table → ℕ → State
@@ -20,9 +19,3 @@ pub record Evicted (t : Table) (i : ℕ) : Type 0 where
   pub earliest : (j : ℕ) → j < length t → kind (stateAt t j) ≡ kind (stateAt t i) → time (stateAt t i) ≤ time (stateAt t j)
   -- "ties take the lowest index"
   pub lowest : (j : ℕ) → j < length t → kind (stateAt t j) ≡ kind (stateAt t i) → time (stateAt t j) ≡ time (stateAt t i) → i ≤ j
-
--- the first place of the key; the number of entries if it has none
-pub record FoundAt (k : Key) (t : Table) (i : ℕ) : Type 0 where
-  pub most : i ≤ length t
-  pub there : i < length t → isKey k (getD t i blank) ≡ true
-  pub none-before : (j : ℕ) → j < i → isKey k (getD t j blank) ≡ false

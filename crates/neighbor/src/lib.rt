@@ -1,7 +1,18 @@
 // The neighbour cache: the map from (interface, address) to hardware address, and the resolutions on their way.
+ghost use mathlib.Core.Path.{_≡_};
+ghost use mathlib.Core.Bool.{_&&_, _||_};
+ghost use lib.Dec.{ltb, eqb};
+ghost use Rattle.neighbor.specs.Answers.{answerOf, listed, listedState};
+ghost use Rattle.neighbor.specs.CacheCalls.{empty, key, LookedUp, ChangedTo, startTo, insertTo, fillTo, clearTo, GotBy, atIndex, RemovedTo, entries};
+ghost use Rattle.neighbor.specs.NeighborRules.{isKey, kind, time, before, insertState, onIface};
+use table::count_of;
 use time::Duration;
 use time::Instant;
+use wire::error::Check;
 use wire::error::Refusal;
+use wire::error::check_fill;
+use wire::error::check_iface;
+use wire::error::check_key;
 use wire::ethernet::HardwareAddress;
 use wire::ipv6::Ipv6Addr;
 
@@ -86,6 +97,111 @@ pub struct Removed {
     pub taken: Got,
 }
 
+// What is evicted first: the lowest kind, and of one kind the earliest time.
+struct Rank {
+    kind: u8,
+    at: u64,
+}
+
+impl Rank {
+    fn is_before(self, other: Rank) -> bool
+        ensures { λ r. ⌜ r ≡ (ltb (self .kind) (other .kind) || (eqb (self .kind) (other .kind) && ltb (self .at) (other .at))) ⌝ }
+    {
+        let k = self.kind < other.kind;
+        let s = self.kind == other.kind;
+        let t = self.at < other.at;
+        k | s & t
+    }
+}
+
+impl State {
+    fn rank(self) -> Rank
+        ensures { λ r. ⌜ (r .kind ≡ kind self) × (r .at ≡ time self) ⌝ }
+    {
+        match self {
+            State::Stale { hardware_addr: _ } => Rank { kind: 0, at: 0 },
+            State::Reachable {
+                hardware_addr: _,
+                expires_at,
+            } => Rank {
+                kind: 1,
+                at: expires_at.0,
+            },
+            State::Incomplete {
+                probes_sent: _,
+                retrans_at,
+            } => Rank {
+                kind: 2,
+                at: retrans_at.0,
+            },
+            State::Started => Rank { kind: 3, at: 0 },
+        }
+    }
+
+    fn answer(self) -> Answer
+        ensures { λ r. ⌜ r ≡ answerOf self ⌝ }
+    {
+        match self {
+            State::Reachable {
+                hardware_addr,
+                expires_at: _,
+            } => Answer::Found(hardware_addr),
+            State::Incomplete {
+                probes_sent: _,
+                retrans_at: _,
+            } => Answer::Pending,
+            State::Started => Answer::Pending,
+            State::Stale { hardware_addr: _ } => Answer::NotFound,
+        }
+    }
+
+    fn listed(self) -> NeighborState
+        ensures { λ r. ⌜ r ≡ listedState self ⌝ }
+    {
+        match self {
+            State::Started => NeighborState::Incomplete,
+            State::Incomplete {
+                probes_sent: _,
+                retrans_at: _,
+            } => NeighborState::Incomplete,
+            State::Reachable {
+                hardware_addr,
+                expires_at,
+            } => NeighborState::Reachable {
+                hardware_addr: hardware_addr,
+                expires_at: expires_at,
+            },
+            State::Stale { hardware_addr } => NeighborState::Stale {
+                hardware_addr: hardware_addr,
+            },
+        }
+    }
+}
+
+impl Entry {
+    pub fn has_key(self, iface: u8, addr: Ipv6Addr) -> bool
+        ensures { λ r. ⌜ r ≡ isKey (key iface addr) self ⌝ }
+    {
+        let a = self.addr;
+        let i = iface == self.iface;
+        let s = addr.same(a);
+        i & s
+    }
+
+    fn listed(self) -> Neighbor
+        ensures { λ r. ⌜ r ≡ listed self ⌝ }
+    {
+        let a = self.addr;
+        let s = self.state;
+        let n = s.listed();
+        Neighbor {
+            iface: self.iface,
+            addr: a,
+            state: n,
+        }
+    }
+}
+
 impl NeighborCache {
     // How long an entry that was filled stays reachable.
     pub const ENTRY_LIFETIME: Duration = Duration(60_000);
@@ -95,4 +211,260 @@ impl NeighborCache {
 
     // The delay between solicitations (RFC 4861, RETRANS_TIMER).
     pub const RETRANS_TIMER: Duration = Duration(1_000);
+
+    pub fn new() -> NeighborCache
+        ensures { λ r. ⌜ r ≡ empty ⌝ }
+    {
+        let nowhere = Ipv6Addr { hi: 0, lo: 0 };
+        let blank = Entry {
+            iface: 0,
+            addr: nowhere,
+            state: State::Started,
+        };
+        let slots = [blank; 16];
+        NeighborCache {
+            slots: slots,
+            len: 0,
+        }
+    }
+
+    // The time is not looked at: an entry past its time is found until a sweep.
+    pub fn lookup(self, iface: u8, addr: Ipv6Addr) -> Answer
+        ensures { λ r. ⌜ LookedUp self iface addr r ⌝ }
+    {
+        let check = check_key(iface, addr);
+        match check {
+            Check::Refused(why) => {
+                return Answer::Refused(why);
+            }
+            Check::Fine => {}
+        }
+        let n = count_of(self.len, 16);
+        let mut i = 0;
+        while i < n {
+            let e = self.slots[i];
+            if e.has_key(iface, addr) {
+                let s = e.state;
+                return s.answer();
+            }
+            i += 1;
+        }
+        Answer::NotFound
+    }
+
+    // The caller sends the first solicitation itself; the next sweep sets the timer.
+    pub fn start_resolution(self, iface: u8, addr: Ipv6Addr) -> Changed
+        ensures { λ r. ⌜ startTo self iface addr r ⌝ }
+    {
+        let check = check_key(iface, addr);
+        self.insert_state(iface, addr, State::Started, check)
+    }
+
+    pub fn fill(
+        self,
+        iface: u8,
+        addr: Ipv6Addr,
+        hardware_addr: HardwareAddress,
+        now: Instant,
+    ) -> Changed
+        ensures { λ r. ⌜ fillTo self iface addr «hardware_addr» now r ⌝ }
+    {
+        let check = check_fill(now, iface, addr, hardware_addr);
+        let expires_at = now.add(Self::ENTRY_LIFETIME);
+        let state = State::Reachable {
+            hardware_addr: hardware_addr,
+            expires_at: expires_at,
+        };
+        self.insert_state(iface, addr, state, check)
+    }
+
+    // There are no static entries: to keep one, insert it again before it expires.
+    pub fn insert(
+        self,
+        iface: u8,
+        addr: Ipv6Addr,
+        hardware_addr: HardwareAddress,
+        expires_at: Instant,
+    ) -> Changed
+        ensures { λ r. ⌜ insertTo self iface addr «hardware_addr» «expires_at» r ⌝ }
+    {
+        let check = check_fill(expires_at, iface, addr, hardware_addr);
+        let state = State::Reachable {
+            hardware_addr: hardware_addr,
+            expires_at: expires_at,
+        };
+        self.insert_state(iface, addr, state, check)
+    }
+
+    pub fn get(self, iface: u8, addr: Ipv6Addr) -> Got
+        ensures { λ r. ⌜ GotBy self iface addr r ⌝ }
+    {
+        let check = check_iface(iface);
+        match check {
+            Check::Refused(why) => {
+                return Got::Refused(why);
+            }
+            Check::Fine => {}
+        }
+        let n = count_of(self.len, 16);
+        let mut i = 0;
+        while i < n {
+            let e = self.slots[i];
+            if e.has_key(iface, addr) {
+                let found = e.listed();
+                return Got::Is(found);
+            }
+            i += 1;
+        }
+        Got::Nothing
+    }
+
+    // The entry at an index, for a listing.
+    pub fn at(self, index: usize) -> Got
+        ensures { λ r. ⌜ r ≡ atIndex self index ⌝ }
+    {
+        let n = count_of(self.len, 16);
+        if index < n {
+            let e = self.slots[index];
+            let found = e.listed();
+            return Got::Is(found);
+        }
+        Got::Nothing
+    }
+
+    // The last entry moves into the place of the one that is taken out.
+    pub fn remove(self, iface: u8, addr: Ipv6Addr) -> Removed
+        ensures { λ r. ⌜ RemovedTo self iface addr r ⌝ }
+    {
+        let mut cache = self;
+        let check = check_iface(iface);
+        match check {
+            Check::Refused(why) => {
+                return Removed {
+                    cache: cache,
+                    taken: Got::Refused(why),
+                };
+            }
+            Check::Fine => {}
+        }
+        let n = count_of(cache.len, 16);
+        let mut i = 0;
+        while i < n {
+            let e = cache.slots[i];
+            if e.has_key(iface, addr) {
+                let last = cache.slots[n - 1];
+                cache.slots[i] = last;
+                cache.len = n - 1;
+                let taken = e.listed();
+                return Removed {
+                    cache: cache,
+                    taken: Got::Is(taken),
+                };
+            }
+            i += 1;
+        }
+        Removed {
+            cache: cache,
+            taken: Got::Nothing,
+        }
+    }
+
+    // Removes an interface's entries; the others keep their order.
+    pub fn clear_iface(self, iface: u8) -> Changed
+        ensures { λ r. ⌜ clearTo self iface r ⌝ }
+    {
+        let mut cache = self;
+        let check = check_iface(iface);
+        match check {
+            Check::Refused(why) => {
+                return Changed {
+                    cache: cache,
+                    outcome: Outcome::Refused(why),
+                };
+            }
+            Check::Fine => {}
+        }
+        let n = count_of(cache.len, 16);
+        let mut w = 0;
+        let mut i = 0;
+        while i < n {
+            let e = cache.slots[i];
+            i += 1;
+            if iface != e.iface {
+                cache.slots[w] = e;
+                w += 1;
+            }
+        }
+        cache.len = w;
+        Changed {
+            cache: cache,
+            outcome: Outcome::Done,
+        }
+    }
+
+    // Puts a state under a key: over its entry, else at the end. In a full cache an entry is evicted: stale ones first, then
+    // resolved ones, since to evict a resolution in progress would strand the packets queued on it.
+    fn insert_state(self, iface: u8, addr: Ipv6Addr, state: State, check: Check) -> Changed
+        ensures { λ r. ⌜ ChangedTo check self (insertState (key iface addr) state (entries self)) r ⌝ }
+    {
+        let mut cache = self;
+        match check {
+            Check::Refused(why) => {
+                return Changed {
+                    cache: cache,
+                    outcome: Outcome::Refused(why),
+                };
+            }
+            Check::Fine => {}
+        }
+        let entry = Entry {
+            iface: iface,
+            addr: addr,
+            state: state,
+        };
+        let n = count_of(cache.len, 16);
+        let mut i = 0;
+        while i < n {
+            let e = cache.slots[i];
+            if e.has_key(iface, addr) {
+                cache.slots[i] = entry;
+                cache.len = n;
+                return Changed {
+                    cache: cache,
+                    outcome: Outcome::Done,
+                };
+            }
+            i += 1;
+        }
+        if n < 16 {
+            cache.slots[n] = entry;
+            cache.len = n + 1;
+            return Changed {
+                cache: cache,
+                outcome: Outcome::Done,
+            };
+        }
+        let first = cache.slots[0];
+        let s = first.state;
+        let mut best = s.rank();
+        let mut index = 0;
+        i = 1;
+        while i < 16 {
+            let e = cache.slots[i];
+            let s = e.state;
+            let r = s.rank();
+            let at = i;
+            i += 1;
+            if r.is_before(best) {
+                best = r;
+                index = at;
+            }
+        }
+        cache.slots[index] = entry;
+        cache.len = n;
+        Changed {
+            cache: cache,
+            outcome: Outcome::Done,
+        }
+    }
 }

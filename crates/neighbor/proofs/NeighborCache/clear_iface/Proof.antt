@@ -1,0 +1,96 @@
+use Prim.Native.Nat.{_-_}
+use borrow.Author.Needs.{needs}
+use borrow.Author.Tests.{eq-eqb, ne-eqb}
+use lib.ListN.{length}
+use mathlib.Core.Path.{_≡_, sym, _∙_}
+use native.Mathlib.Omega.{arith}
+use Rattle.neighbor.proofs.Calls.{change-refused, changed}
+use Rattle.neighbor.specs.CacheCalls.{blank, entries, ifaceCheck}
+use Rattle.neighbor.specs.NeighborRules.{onIface, clearIface}
+use Rattle.table.proofs.Laws.{mapped, Compacting, compacting, one-gone, one-kept, compacted}
+use Rattle.neighbor.proofs.NeighborCache.clear_iface.Statement.{statement}
+use Rattle.neighbor.proofs.NeighborCache.clear_iface.Tie as tie
+
+abbrev Inv-loop : tie.InvT-loop
+Inv-loop iface cache₀ n w₀ i₀ cache w i = Compacting 16 (onIface iface) (cache₀ .slots) (cache₀ .len) n (cache .slots) w i
+
+abbrev μ-loop : tie.MeasureT-loop
+μ-loop iface cache₀ n w₀ i₀ cache w i = n - i
+
+check-iface-requires : tie.Need-check-iface-requires Inv-loop μ-loop
+check-iface-requires c κs = search needs
+
+enum-known-check : tie.Need-enum-known-check Inv-loop μ-loop
+enum-known-check c = search needs
+
+returns : tie.Need-returns Inv-loop μ-loop
+returns c = change-refused (ifaceCheck (c .before .before .before .before .args .iface)) (c .before .before .before .before .args .self) (clearIface (c .before .before .before .before .args .iface) (entries (c .before .before .before .before .args .self))) _ (sym (c .before .before .before .check-iface .ensures) ∙ c .before .check .given .1)
+
+enum-told : tie.Need-enum-told Inv-loop μ-loop
+enum-told c = search needs
+
+count-of-requires : tie.Need-count-of-requires Inv-loop μ-loop
+count-of-requires c κs = search needs
+
+loop-holds : tie.Need-loop-holds Inv-loop μ-loop
+loop-holds c = let full : length (c .before .before .before .before .args .self .slots) ≡ 16 = search (needs, mapped) in
+    compacting 16 (onIface (c .before .before .before .before .args .iface)) (c .before .before .before .before .args .self .slots) (c .before .before .before .before .args .self .len) _ full (c .count-of .ensures)
+
+mul-e : tie.Need-mul-e Inv-loop μ-loop
+mul-e c = omega arith
+
+element-copy-out-e : tie.Need-element-copy-out-e Inv-loop μ-loop
+element-copy-out-e c = omega arith
+
+add-i : tie.Need-add-i Inv-loop μ-loop
+add-i c = omega arith
+
+mul-e-2 : tie.Need-mul-e-2 Inv-loop μ-loop
+mul-e-2 c = omega arith
+
+element-set-from-e : tie.Need-element-set-from-e Inv-loop μ-loop
+element-set-from-e c = omega arith
+
+add-w : tie.Need-add-w Inv-loop μ-loop
+add-w c = omega arith
+
+loop-less : tie.Need-loop-less Inv-loop μ-loop
+loop-less c = omega arith
+
+loop-again : tie.Need-loop-again Inv-loop μ-loop
+unfolding onIface
+loop-again c = one-kept blank (c .before .before .before .before .loop .inv) (omega arith) (ne-eqb _ _ (c .if1 .taken))
+
+loop-less-2 : tie.Need-loop-less-2 Inv-loop μ-loop
+loop-less-2 c = omega arith
+
+loop-again-2 : tie.Need-loop-again-2 Inv-loop μ-loop
+unfolding onIface
+loop-again-2 c = one-gone blank (c .before .before .before .before .loop .inv) (omega arith) (eq-eqb _ _ (c .if1 .left))
+
+returns-2 : tie.Need-returns-2 Inv-loop μ-loop
+returns-2 c = changed (ifaceCheck (c .before .before .before .before .before .before .args .iface)) (c .before .before .before .before .before .before .args .self) (clearIface (c .before .before .before .before .before .before .args .iface) (entries (c .before .before .before .before .before .before .args .self))) _ _ (sym (c .before .before .before .before .before .check-iface .ensures) ∙ c .before .before .before .enum-told .given .1) (compacted blank (c .before .loop .inv) (omega arith))
+
+pub clear-iface-spec : {M : Type 1} → statement M
+clear-iface-spec =
+    tie.close
+    (tie.spec
+    Inv-loop
+    μ-loop
+    check-iface-requires
+    enum-known-check
+    returns
+    enum-told
+    count-of-requires
+    loop-holds
+    mul-e
+    element-copy-out-e
+    add-i
+    mul-e-2
+    element-set-from-e
+    add-w
+    loop-less
+    loop-again
+    loop-less-2
+    loop-again-2
+    returns-2)
