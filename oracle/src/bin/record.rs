@@ -59,6 +59,198 @@ const WRITTEN: &[(&str, &str)] = &[
     ),
 ];
 
+/// Cases in which a rule shows that the smallest file for it may leave unseen.
+fn more_written() -> Vec<(&'static str, String)> {
+    // A prefix option: low digits of the upper half of 2001:db8::, length, valid, preferred.
+    let prefix = |n: u32, len: u8, valid: u32, preferred: u32| {
+        format!("0304{len:02x}c0{valid:08x}{preferred:08x}0000000020010db8{n:08x}0000000000000000")
+    };
+    let ra = |time: u64, source: u32, lifetime: u16, options: &[String]| {
+        let options = options.concat();
+        format!("{time} ra fe80000000000000000000000000{source:04x} 860000000000{lifetime:04x}0000000000000000{options}")
+    };
+    let file = |addresses: &[&str], events: &[String]| {
+        let mut s = format!("mac 020000000001\naddresses {}\n", addresses.len());
+        for a in addresses {
+            s += &format!("{a}\n");
+        }
+        s += &format!("events {}\n", events.len());
+        for e in events {
+            s += &format!("{e}\n");
+        }
+        s
+    };
+    let e = |text: &str| text.to_string();
+    let own = "fe80000000000000000000fffe000001 64";
+    let formed = "20010db800000001000000fffe000001 64";
+    let mut cases = Vec::new();
+    cases.push((
+        "a link-local prefix",
+        file(&[], &[ra(0, 1, 9, &["030440c0000000050000000500000000fe800000000000000000000000000000".into()]), e("0 poll")]),
+    ));
+    cases.push((
+        "a multicast prefix",
+        file(&[], &[ra(0, 1, 9, &["030440c0000000050000000500000000ff020000000000000000000000000000".into()]), e("0 poll")]),
+    ));
+    cases.push((
+        "prefixes of 63, 64 and 65 bits: one address",
+        file(&[], &[ra(0, 1, 9, &[prefix(1, 63, 9, 5), prefix(2, 64, 9, 5), prefix(3, 65, 9, 5)]), e("0 poll")]),
+    ));
+    let four: Vec<String> = (1..=4).map(|n| prefix(n, 64, 9, 1)).collect();
+    cases.push((
+        "a fifth prefix asks for no sync: a preferred time that passed is listed as it was",
+        file(&[], &[ra(0, 1, 0, &four), e("0 poll"), ra(2_000, 1, 0, &[prefix(5, 64, 9, 9)]), e("2000 poll")]),
+    ));
+    cases.push((
+        "a third router asks for no sync",
+        file(
+            &[],
+            &[
+                ra(0, 1, 9, &[prefix(1, 64, 9, 1)]),
+                ra(0, 2, 9, &[]),
+                e("0 poll"),
+                ra(2_000, 3, 9, &[]),
+                e("2000 poll"),
+            ],
+        ),
+    ));
+    cases.push((
+        "a poll with nothing to sync leaves a preferred time that passed; the sync at the next advertisement does not",
+        file(&[], &[ra(0, 1, 0, &[prefix(1, 64, 9, 1)]), e("0 poll"), e("2000 poll")]),
+    ));
+    cases.push((
+        "the same, then an advertisement of the router",
+        file(
+            &[],
+            &[ra(0, 1, 0, &[prefix(1, 64, 9, 1)]), e("0 poll"), e("2000 poll"), ra(2_000, 1, 9, &[]), e("2001 poll")],
+        ),
+    ));
+    cases.push((
+        "valid 0 asks for a sync, seen by a poll of an earlier time",
+        file(
+            &[],
+            &[ra(0, 1, 0, &[prefix(1, 64, 9, 5)]), e("0 poll"), ra(20, 1, 0, &[prefix(1, 64, 0, 0)]), e("10 poll")],
+        ),
+    ));
+    cases.push((
+        "lifetime 0 asks for a sync, seen by a poll of an earlier time",
+        file(&[], &[ra(0, 1, 9, &[]), e("0 poll"), ra(20, 1, 0, &[]), e("10 poll")]),
+    ));
+    cases.push((
+        "three solicitations and no fourth; up gives three more",
+        file(
+            &[own],
+            &[
+                e("0 up"),
+                e("0 poll"),
+                e("3999 poll"),
+                e("4000 poll"),
+                e("8000 poll"),
+                e("12000 poll"),
+                e("99000 poll"),
+                e("99001 up"),
+                e("99001 poll"),
+                e("103000 poll"),
+                e("103001 poll"),
+                e("107001 poll"),
+                e("111001 poll"),
+            ],
+        ),
+    ));
+    cases.push((
+        "up in phase Maintaining solicits again",
+        file(&[own], &[e("0 up"), e("0 poll"), ra(1, 1, 9, &[]), e("4000 poll"), e("5000 up"), e("5000 poll")]),
+    ));
+    cases.push((
+        "an advertisement in phase Start: the solicitation is still sent",
+        file(&[own], &[e("0 up"), ra(0, 1, 9, &[]), e("0 poll"), e("4000 poll")]),
+    ));
+    cases.push((
+        "an application's address of that prefix stays, in life and at the end",
+        file(&[formed], &[ra(0, 1, 0, &[prefix(1, 64, 1, 1)]), e("0 poll"), e("1000 poll")]),
+    ));
+    cases.push((
+        "an application's address of another length is no match",
+        file(
+            &["20010db800000001000000fffe000001 128"],
+            &[ra(0, 1, 0, &[prefix(1, 64, 2, 1)]), e("0 poll"), e("1000 poll")],
+        ),
+    ));
+    cases.push((
+        "the first of three addresses goes, and the others move down",
+        file(
+            &[own],
+            &[
+                ra(0, 1, 0, &[prefix(1, 64, 1, 1), prefix(2, 64, 9, 9), prefix(3, 64, 9, 9)]),
+                e("0 poll"),
+                e("999 poll"),
+                e("1000 poll"),
+            ],
+        ),
+    ));
+    cases.push((
+        "off clears neighbours with an address",
+        file(
+            &[],
+            &[
+                ra(0, 1, 9, &[prefix(1, 64, 9, 9)]),
+                e("0 poll"),
+                e("0 start 20010db8000000000000000000000007"),
+                e("1 off"),
+                e("2 poll"),
+                ra(2, 1, 9, &[]),
+            ],
+        ),
+    ));
+    cases.push((
+        "off keeps neighbours without one",
+        file(&[], &[ra(0, 1, 9, &[]), e("0 poll"), e("0 start 20010db8000000000000000000000007"), e("1 off")]),
+    ));
+    // A full cache of one kind or two, and one more.
+    let addr = |n: u32| format!("20010db800000000000000000000{n:04x}");
+    let mut kinds: Vec<(&str, Vec<String>)> = Vec::new();
+    let fill = |t: u64, n: u32| format!("{t} fill {} 0200000000{n:02x}", addr(n));
+    let start = |t: u64, n: u32| format!("{t} start {}", addr(n));
+    kinds.push(("reachable: the earliest expiry", (0..16).map(|n| fill(if n == 5 { 0 } else { 10 }, n)).collect()));
+    kinds.push(("reachable, ties: the lowest index", (0..16).map(|n| fill(if n % 5 == 3 { 0 } else { 10 }, n)).collect()));
+    kinds.push(("started: the lowest index", (0..16).map(|n| start(0, n)).collect()));
+    let mut incomplete: Vec<String> = (0..8).map(|n| start(0, n)).collect();
+    incomplete.push("50 sweep".into());
+    incomplete.extend((8..16).map(|n| start(0, n)));
+    kinds.push(("incomplete before started", incomplete.clone()));
+    incomplete.push("40 sweep".into());
+    kinds.push(("incomplete: the earliest due", incomplete));
+    let mut stale: Vec<String> = (0..12).map(|n| fill(if n % 4 == 2 { 0 } else { 10 }, n)).collect();
+    stale.push("60005 sweep".into());
+    stale.extend((12..16).map(|n| if n == 13 { start(60_005, n) } else { fill(60_005, n) }));
+    kinds.push(("stale behind reachable: the lowest index of the stale", stale.clone()));
+    stale.push("60006 sweep".into());
+    kinds.push(("all kinds but started", stale));
+    let mut mixed: Vec<String> = (0..15).map(|n| start(0, n)).collect();
+    mixed.push(fill(9, 15));
+    kinds.push(("the only reachable, in the last place", mixed));
+    for (name, events) in kinds {
+        for last in [format!("60006 start {}", addr(99)), format!("60006 fill {} 020000000099", addr(99))] {
+            let mut events = events.clone();
+            events.push(last);
+            events.push(format!("60006 remove {}", addr(4)));
+            events.push("60007 sweep".into());
+            cases.push((Box::leak(format!("a full cache, {name}").into_boxed_str()), file(&[], &events)));
+        }
+    }
+    // Failures in one sweep.
+    for n in [1u32, 2, 3, 5] {
+        let mut events: Vec<String> = (0..n).map(|i| start(0, i)).collect();
+        events.push("0 sweep".into());
+        events.push(start(0, 50));
+        for t in [1_000, 2_000, 2_500, 3_000, 3_000, 4_000, 5_500, 6_500] {
+            events.push(format!("{t} sweep"));
+        }
+        cases.push(("resolutions that fail in one sweep, and one a little later", file(&[], &events)));
+    }
+    cases
+}
+
 /// Inputs of the format, most with one thing wrong. `@` stands for the good file below.
 fn format_cases() -> Vec<(String, Vec<u8>)> {
     let good = "mac 020000000001\naddresses 2\nfe80000000000000000000fffe000001 64\n20010db8000000010000000000000005 64\nevents 3\n0 up\n0 poll\n1 start 20010db8000000010000000000000007\n";
@@ -313,6 +505,10 @@ fn main() {
         bytes: 0,
     };
     for (name, text) in WRITTEN {
+        record.put(name, text.as_bytes());
+    }
+
+    for (name, text) in more_written() {
         record.put(name, text.as_bytes());
     }
 
