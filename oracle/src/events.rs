@@ -288,9 +288,11 @@ impl Host<'_> {
         self.times.note(time + 1000 * lifetime);
         self.times.note(time + 60_000);
         let mut at = 16;
-        while at < message.len() {
-            let option = &message[at..];
-            if option[0] == 3 {
+        while let Some(option) = message.get(at..)
+            && option.len() >= 8
+            && option[1] > 0
+        {
+            if option[0] == 3 && option.len() >= 32 {
                 let secs = |i: usize| u64::from(u32::from_be_bytes(option[i..i + 4].try_into().unwrap()));
                 let (valid, preferred) = (secs(4), secs(8));
                 let prefix: &[u8; 16] = option[16..32].try_into().unwrap();

@@ -1,0 +1,370 @@
+//! The port's own source, as plain Rust, driven call by call beside the real code or the model.
+//!
+//!     port [-n SEQUENCES] [-s SEED] [--model]
+//!
+//! Calls that the port's crates do not have yet are left out of each sequence, on both sides.
+
+use std::time::Instant as Wall;
+
+use oracle::calls::{self, Addr, Entry, Event, Held, Lookup, Mac, Modelled, Phased, Polled, Preferred, Real, Refused};
+use oracle::calls::{Shown, Side, Soliciting, ToWrite};
+
+#[allow(dead_code, unused_imports, unused_variables, unused_mut, unused_parens, non_snake_case)]
+#[path = ""]
+mod port {
+    include!(concat!(env!("OUT_DIR"), "/port.rs"));
+}
+
+use port::iface::addr::{AddrAt, AddrOrigin, IfaceAddrs};
+use port::iface::route::{Expiry, RouteAt, RouteOrigin, Routes};
+use port::learned::{Phase, PrefixAt, RouterAt, Slaac};
+use port::neighbor::{Answer, Got, Neighbor, NeighborCache, NeighborState, Outcome, State};
+use port::sweep::ProbeEvent;
+use port::time::{Clock, Deadline, Instant};
+use port::wire::error::Refusal;
+use port::wire::ethernet::HardwareAddress;
+use port::wire::ipv6::{Ipv6Addr, Ipv6Cidr};
+
+/// What the port has so far.
+const CALLS: &[&str] = &[
+    "new", "lookup", "start", "fill", "insert", "get", "remove", "clear", "sweep", "cache", "address", "route", "restart", "on",
+    "slaac", "prefixes", "routers", "addresses", "routes",
+];
+
+struct Port {
+    cache: NeighborCache,
+    addrs: [IfaceAddrs; 4],
+    routes: Routes,
+    slaac: [Slaac; 4],
+}
+
+impl Default for Port {
+    fn default() -> Self {
+        Port {
+            cache: NeighborCache::new(),
+            addrs: [IfaceAddrs::new(); 4],
+            routes: Routes::new(),
+            slaac: [Slaac::new(); 4],
+        }
+    }
+}
+
+fn ip(a: Addr) -> Ipv6Addr {
+    Ipv6Addr::from_octets(&a)
+}
+
+fn hw(m: Mac) -> HardwareAddress {
+    HardwareAddress::from_octets(&m)
+}
+
+fn number(why: Refusal) -> Refused {
+    why.number().into()
+}
+
+fn shown(n: Neighbor) -> Shown {
+    match n.state {
+        NeighborState::Incomplete => Shown::Incomplete,
+        NeighborState::Reachable {
+            hardware_addr,
+            expires_at,
+        } => Shown::Reachable(hardware_addr.octets(), expires_at.0),
+        NeighborState::Stale { hardware_addr } => Shown::Stale(hardware_addr.octets()),
+    }
+}
+
+fn got(g: Got) -> Result<Option<Shown>, Refused> {
+    match g {
+        Got::Refused(why) => Err(number(why)),
+        Got::Nothing => Ok(None),
+        Got::Is(n) => Ok(Some(shown(n))),
+    }
+}
+
+fn clock(now: u64, deadline: Option<u64>) -> Clock {
+    Clock {
+        now: Instant(now),
+        deadline: deadline.map_or(Deadline::None, |t| Deadline::At(Instant(t))),
+    }
+}
+
+fn deadline(c: Clock) -> Option<u64> {
+    match c.deadline {
+        Deadline::None => None,
+        Deadline::At(t) => Some(t.0),
+    }
+}
+
+impl Port {
+    fn changed(&mut self, c: port::neighbor::Changed) -> Result<(), Refused> {
+        self.cache = c.cache;
+        match c.outcome {
+            Outcome::Refused(why) => Err(number(why)),
+            Outcome::Done => Ok(()),
+        }
+    }
+
+    fn learned(&mut self, iface: u8, c: port::learned::Changed) -> Result<(), Refused> {
+        match c.outcome {
+            port::learned::Outcome::Refused(why) => Err(number(why)),
+            port::learned::Outcome::Done => {
+                self.slaac[usize::from(iface)] = c.slaac;
+                Ok(())
+            }
+        }
+    }
+
+    /// For a listing, which the port has by index alone.
+    fn known(&self, iface: u8) -> Result<usize, Refused> {
+        if iface > 3 { Err(7) } else { Ok(iface.into()) }
+    }
+}
+
+impl Side for Port {
+    fn reset(&mut self, _mac: Mac, _first: u64) {
+        *self = Port::default();
+    }
+
+    fn option(&mut self, _bytes: &[u8]) -> Option<(Held, usize, usize)> {
+        unimplemented!()
+    }
+    fn write(&mut self, _message: &mut [u8], _place: usize, _option: &ToWrite) -> Result<(), Refused> {
+        unimplemented!()
+    }
+
+    fn lookup(&mut self, iface: u8, addr: Addr) -> Result<Lookup, Refused> {
+        match self.cache.lookup(iface, ip(addr)) {
+            Answer::Refused(why) => Err(number(why)),
+            Answer::Found(m) => Ok(Lookup::Found(m.octets())),
+            Answer::Pending => Ok(Lookup::Pending),
+            Answer::NotFound => Ok(Lookup::NotFound),
+        }
+    }
+    fn start(&mut self, iface: u8, addr: Addr) -> Result<(), Refused> {
+        let c = self.cache.start_resolution(iface, ip(addr));
+        self.changed(c)
+    }
+    fn fill(&mut self, iface: u8, addr: Addr, mac: Mac, now: u64) -> Result<(), Refused> {
+        let c = self.cache.fill(iface, ip(addr), hw(mac), Instant(now));
+        self.changed(c)
+    }
+    fn insert(&mut self, iface: u8, addr: Addr, mac: Mac, expires: u64) -> Result<(), Refused> {
+        let c = self.cache.insert(iface, ip(addr), hw(mac), Instant(expires));
+        self.changed(c)
+    }
+    fn get(&mut self, iface: u8, addr: Addr) -> Result<Option<Shown>, Refused> {
+        got(self.cache.get(iface, ip(addr)))
+    }
+    fn remove(&mut self, iface: u8, addr: Addr) -> Result<Option<Shown>, Refused> {
+        let r = self.cache.remove(iface, ip(addr));
+        self.cache = r.cache;
+        got(r.taken)
+    }
+    fn clear(&mut self, iface: u8) -> Result<(), Refused> {
+        let c = self.cache.clear_iface(iface);
+        self.changed(c)
+    }
+    fn sweep(&mut self, iface: u8, now: u64, before: Option<u64>) -> Result<(Vec<Event>, Option<u64>), Refused> {
+        let s = port::sweep::sweep_at(self.cache, clock(now, before), iface);
+        self.cache = s.cache;
+        if let Outcome::Refused(why) = s.outcome {
+            assert!(s.events.len == 0 && deadline(s.clock) == before);
+            return Err(number(why));
+        }
+        let event = |e: &port::sweep::EventSlot| match e.event {
+            ProbeEvent::Retransmit(a) => Event::Retransmit(a.octets()),
+            ProbeEvent::Failed(a) => Event::Failed(a.octets()),
+        };
+        Ok((s.events.slots[..s.events.len].iter().map(event).collect(), deadline(s.clock)))
+    }
+    fn cache(&mut self) -> Vec<(u8, Addr, Entry)> {
+        // The listing by index is the application's view of the same entries.
+        let entries = &self.cache.slots[..self.cache.len];
+        for (i, e) in entries.iter().enumerate() {
+            let Got::Is(n) = self.cache.at(i) else { panic!("a listed entry") };
+            assert!(n.iface == e.iface && n.addr.same(e.addr));
+        }
+        assert!(matches!(self.cache.at(entries.len()), Got::Nothing));
+        let entry = |e: &port::neighbor::Entry| {
+            let state = match e.state {
+                State::Started => Entry::Started,
+                State::Incomplete {
+                    probes_sent,
+                    retrans_at,
+                } => Entry::Incomplete(probes_sent, retrans_at.0),
+                State::Reachable {
+                    hardware_addr,
+                    expires_at,
+                } => Entry::Reachable(hardware_addr.octets(), expires_at.0),
+                State::Stale { hardware_addr } => Entry::Stale(hardware_addr.octets()),
+            };
+            (e.iface, e.addr.octets(), state)
+        };
+        entries.iter().map(entry).collect()
+    }
+
+    fn push(&mut self, _iface: u8, _addr: Addr, _handle: u32) -> Result<Option<u32>, Refused> {
+        unimplemented!()
+    }
+    fn release(&mut self, _iface: u8, _addr: Addr) -> Result<Option<u32>, Refused> {
+        unimplemented!()
+    }
+    fn orphans(&mut self) -> Vec<u32> {
+        unimplemented!()
+    }
+    fn purge(&mut self, _iface: u8) -> Result<Vec<u32>, Refused> {
+        unimplemented!()
+    }
+    fn queue(&mut self) -> Vec<(u8, Addr, u32)> {
+        unimplemented!()
+    }
+
+    fn add_address(&mut self, iface: u8, addr: Addr, len: u64) -> Result<(), Refused> {
+        let cidr = Ipv6Cidr {
+            address: ip(addr),
+            prefix_len: len.try_into().unwrap(),
+        };
+        let table = self.addrs[usize::from(iface.min(3))];
+        let a = table.add_ip_addr(iface, cidr);
+        match a.outcome {
+            port::iface::Outcome::Refused(why) => Err(number(why)),
+            port::iface::Outcome::Done => {
+                self.addrs[usize::from(iface)] = a.addrs;
+                Ok(())
+            }
+        }
+    }
+    fn add_route(&mut self, iface: u8, via: Addr) -> Result<(), Refused> {
+        let default = Ipv6Cidr {
+            address: Ipv6Addr { hi: 0, lo: 0 },
+            prefix_len: 0,
+        };
+        let a = self.routes.add_route(iface, default, ip(via));
+        self.routes = a.routes;
+        match a.outcome {
+            port::iface::Outcome::Refused(why) => Err(number(why)),
+            port::iface::Outcome::Done => Ok(()),
+        }
+    }
+    fn link(&mut self, _iface: u8, _up: bool) -> Result<(), Refused> {
+        unimplemented!()
+    }
+    fn restart(&mut self, iface: u8) -> Result<(), Refused> {
+        let c = self.slaac[usize::from(iface.min(3))].restart(iface);
+        self.learned(iface, c)
+    }
+    fn turn_on(&mut self, iface: u8) -> Result<(), Refused> {
+        let c = self.slaac[usize::from(iface.min(3))].turn_on(iface);
+        self.learned(iface, c)
+    }
+    fn turn_off(&mut self, _iface: u8) -> Result<(), Refused> {
+        unimplemented!()
+    }
+    fn advertise(&mut self, _iface: u8, _source: Addr, _now: u64, _message: &[u8]) -> Result<bool, Refused> {
+        unimplemented!()
+    }
+    fn poll(&mut self, _: u8, _: u64, _: Option<u64>, _: u64) -> Result<(Polled, Option<u64>), Refused> {
+        unimplemented!()
+    }
+    fn soliciting(&mut self, iface: u8) -> Result<Option<Soliciting>, Refused> {
+        let s = &self.slaac[self.known(iface)?];
+        if !s.on {
+            return Ok(None);
+        }
+        Ok(Some(Soliciting {
+            phase: match s.discovery.phase {
+                Phase::Start => Phased::Start,
+                Phase::Discovering(t) => Phased::Discovering(t.0),
+                Phase::Maintaining => Phased::Maintaining,
+            },
+            left: s.discovery.num_solicitations,
+            sync: s.sync_required,
+            seen: s.state.routers_seen,
+            managed: s.state.managed,
+            other: s.state.other_config,
+        }))
+    }
+    fn prefixes(&mut self, iface: u8) -> Result<Vec<(Addr, u8, u64, u64)>, Refused> {
+        let s = self.slaac[self.known(iface)?];
+        let mut list = Vec::new();
+        while let PrefixAt::Is(p) = s.prefix_at(list.len()) {
+            list.push((p.cidr.address.octets(), p.cidr.prefix_len, p.preferred_until.0, p.valid_until.0));
+        }
+        Ok(list)
+    }
+    fn routers(&mut self, iface: u8) -> Result<Vec<(Addr, u64)>, Refused> {
+        let s = self.slaac[self.known(iface)?];
+        let mut list = Vec::new();
+        while let RouterAt::Is(r) = s.router_at(list.len()) {
+            list.push((r.addr.octets(), r.valid_until.0));
+        }
+        Ok(list)
+    }
+    fn addresses(&mut self, iface: u8) -> Result<Vec<(Addr, u8, bool, Preferred)>, Refused> {
+        let t = self.addrs[self.known(iface)?];
+        let mut list = Vec::new();
+        while let AddrAt::Is(a) = t.at(list.len()) {
+            let preferred = match a.preferred {
+                port::iface::addr::Preferred::Always => Preferred::Always,
+                port::iface::addr::Preferred::Until(t) => Preferred::Until(t.0),
+                port::iface::addr::Preferred::Never => Preferred::Never,
+            };
+            let slaac = matches!(a.origin, AddrOrigin::Slaac);
+            list.push((a.cidr.address.octets(), a.cidr.prefix_len, slaac, preferred));
+        }
+        Ok(list)
+    }
+    fn routes(&mut self) -> Vec<(u8, Addr, bool, Option<u64>)> {
+        let mut list = Vec::new();
+        while let RouteAt::Is(r) = self.routes.at(list.len()) {
+            let expiry = match r.expires_at {
+                Expiry::Forever => None,
+                Expiry::At(t) => Some(t.0),
+            };
+            list.push((r.iface, r.via_router.octets(), matches!(r.origin, RouteOrigin::Slaac), expiry));
+        }
+        list
+    }
+}
+
+fn main() {
+    xarxa::world::quiet_expected_panics();
+    let (mut count, mut seed, mut with_model) = (10_000u64, 1u64, false);
+    let mut args = std::env::args().skip(1);
+    while let Some(arg) = args.next() {
+        let mut number = || args.next().and_then(|a| a.parse().ok());
+        let known = match arg.as_str() {
+            "-n" => number().map(|n| count = n),
+            "-s" => number().map(|n| seed = n),
+            "--model" => {
+                with_model = true;
+                Some(())
+            }
+            _ => None,
+        };
+        if known.is_none() {
+            eprintln!("port [-n SEQUENCES] [-s SEED] [--model]");
+            std::process::exit(2)
+        }
+    }
+    let began = Wall::now();
+    let mut lines = 0u64;
+    for n in 0..count {
+        let mut sequence = oracle::generate::calls(seed, n, with_model);
+        sequence.retain(|l| CALLS.contains(&l.split(' ').next().unwrap()));
+        let mut port = Port::default();
+        let mut other: Box<dyn Side> = if with_model { Box::new(Modelled::default()) } else { Box::new(Real::default()) };
+        for (i, line) in sequence.iter().enumerate() {
+            let (l, r) = (calls::answer(other.as_mut(), line), calls::answer(&mut port, line));
+            lines += 1;
+            if l != r {
+                for line in &sequence[..i] {
+                    println!("    {line}");
+                }
+                let name = if with_model { "model" } else { "rust" };
+                println!("sequence {seed} {n}, line {}: {line}\n- {l}    ({name})\n+ {r}    (port)", i + 1);
+                std::process::exit(1)
+            }
+        }
+    }
+    println!("{count} sequences, {lines} calls equal; {:.1} s", began.elapsed().as_secs_f64());
+}
