@@ -269,8 +269,8 @@ impl NeighborCache {
     ) -> Changed
         ensures { λ r. ⌜ fillTo self iface addr «hardware_addr» now r ⌝ }
     {
-        let check = check_fill(now, iface, addr, hardware_addr);
         let expires_at = now.add(Self::ENTRY_LIFETIME);
+        let check = check_fill(now, iface, addr, hardware_addr);
         let state = State::Reachable {
             hardware_addr: hardware_addr,
             expires_at: expires_at,
