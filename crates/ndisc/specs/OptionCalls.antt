@@ -14,7 +14,7 @@ use Rattle.ndisc.specs.declared.ndiscoption.PrefixInformation.{PrefixInf
 use Rattle.ndisc.specs.declared.ndiscoption.Checked.{Checked}
 use Rattle.ndisc.specs.declared.ndiscoption.Written.{Written}
 use Rattle.ndisc.specs.declared.ndiscoption.Written.the-variants.{Refused, Done}
-use Rattle.ndisc.specs.Answers.{checkedNumber, writtenNumber}
+use Rattle.ndisc.specs.Answers.{checkedNumber, checkedUnits, writtenNumber}
 use Rattle.ndisc.specs.Rfc4861Options.{byte, malformed, unitsOf, checkedOf, flag}
 
 -- the fewest units that an option of a type has: 8 L of 32 bytes, of 48, of 8
@@ -31,6 +31,7 @@ pub record Measured (s : List ℕ) (r : ℕ) : Type 0 where
 pub record Checks (s : List ℕ) (r : Checked) : Type 0 where
   pub is : r ≡ checkedOf s
   pub number : checkedNumber r ≡ cond (malformed s) 1 0
+  pub whole : 8 * checkedUnits r ≤ length s
 
 -- "Writers exist for types 1, 2, 3 and 5, of 8, 8, 32 and 8 bytes, reserved bytes zero, flags only the two named"
 abbrev pub linkLayerBytes : ℕ → HardwareAddress → List ℕ

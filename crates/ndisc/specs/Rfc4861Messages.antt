@@ -1,9 +1,9 @@
 -- RFC 4861, 4.1 and 4.2: Router Solicitation and the header of Router Advertisement. Assumes nothing.
-use Prim.Native.Nat.{ℕ}
+use Prim.Native.Nat.{ℕ, _≤_}
 use mathlib.Core.Path.{_≡_}
 use mathlib.Core.List.{List, [], _∷_, _++_}
-use mathlib.Core.Bool.{Bool, cond, _||_, not}
-use lib.ListN.{length, drop}
+use mathlib.Core.Bool.{true, cond, _||_, not}
+use lib.ListN.{length, take, drop}
 use lib.Dec.{ltb, leb, eqb}
 use Rattle.wire.specs.Numbers.{u16At, bytes16}
 use Rattle.wire.specs.Refusals.{Row, firstRefusal, checkNumber}
@@ -21,7 +21,7 @@ use Rattle.ndisc.specs.declared.ndisc.Solicited.the-variants.{NoRoom, Wr
 use Rattle.ndisc.specs.Answers.{advertNumber, solicitedNumber}
 use Rattle.ndisc.specs.Rfc4861Options.{byte, bit}
 use Rattle.ndisc.specs.OptionCalls.{linkLayerBytes}
-use Rattle.ndisc.specs.Rfc4443Checksum.{checksumOf}
+use Rattle.ndisc.specs.Rfc4443Checksum.{checksumOf, accepted}
 
 -- 5: "advertisement under 16 bytes, type not 134 or code not 0"
 abbrev pub notAdvertisement : List ℕ → Row
@@ -65,7 +65,9 @@ solicitedOf buf = cond (leb 16 (length buf)) Written NoRoom
 abbrev pub solicitIn : List ℕ → Ipv6Addr → HardwareAddress → List ℕ
 solicitIn buf src hw = cond (leb 16 (length buf)) (solicitation src hw ++ drop 16 buf) buf
 
+-- a solicitation that is written passes a receiver's check
 pub record Solicits (buf : List ℕ) (src : Ipv6Addr) (hw : HardwareAddress) (r : Solicited) (buf' : List ℕ) : Type 0 where
   pub is : r ≡ solicitedOf buf
   pub number : solicitedNumber r ≡ 0
   pub leaves : buf' ≡ solicitIn buf src hw
+  pub verifies : 16 ≤ length buf → accepted (addressBytes src) allRouters (take 16 buf') ≡ true
