@@ -159,6 +159,27 @@ pub fn file(seed: u64, number: u64, wide: bool) -> Vec<u8> {
     text
 }
 
+/// A link-local address with a sum at the edge of 16 bits: of the pseudo-header alone or with the solicitation, as
+/// big-endian words or as little-endian ones.
+pub fn carrying(rng: &mut Rng, mac: Mac) -> Addr {
+    let addr = LINK_LOCAL | u128::from(rng.next()) & !0xffff;
+    let mut words: Vec<u16> = (0..8).map(|i| (addr >> (112 - 16 * i)) as u16).collect();
+    words.extend([0xff02, 2, 16, 58]);
+    if rng.one_in(2) {
+        words.extend([0x8500, 0x0101]);
+        words.extend((0..3).map(|i| (mac >> (32 - 16 * i)) as u16));
+    }
+    let sum: u32 = words.iter().map(|w| u32::from(*w)).sum();
+    let target = match rng.below(3) {
+        0 => 0xffff,
+        1 => 1 + rng.below(5) as u32,
+        _ => (1 + rng.below(5) as u32) << 8,
+    };
+    // The last word brings the sum to the target, carries folded in.
+    let last = (target + 0xffff * 17 - sum) % 0xffff;
+    addr | u128::from(last)
+}
+
 impl Maker {
     fn new(mut rng: Rng, wide: bool) -> Maker {
         let mut mac = match rng.below(4) {
@@ -255,6 +276,7 @@ impl Maker {
             let likely = i == 0 && !self.rng.one_in(4);
             let addr = match self.rng.below(if likely { 4 } else { 12 }) {
                 0..=2 => own,
+                3 if self.rng.one_in(2) => carrying(&mut self.rng, self.file.mac),
                 3 => LINK_LOCAL | u128::from(self.rng.below(5)),
                 4..=6 => formed(prefix, self.file.mac),
                 7 => 0x2001_0db8 << 96 | u128::from(self.rng.next()),

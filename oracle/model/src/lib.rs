@@ -297,8 +297,16 @@ pub fn checksum(src: Addr, dst: Addr, message: &[u8]) -> u16 {
         bytes.push(0);
     }
     let mut sum: u64 = bytes.chunks(2).map(|c| u64::from(c[0]) << 8 | u64::from(c[1])).sum();
+    let mut folds = 0;
     while sum > 0xffff {
         sum = (sum & 0xffff) + (sum >> 16);
+        folds += 1;
+    }
+    if folds > 1 {
+        mark!("solicit.checksum-carries-twice");
+    }
+    if sum == 0xffff {
+        mark!("solicit.checksum-zero");
     }
     !(sum as u16)
 }

@@ -206,6 +206,12 @@ fn more_written() -> Vec<(&'static str, String)> {
         "off keeps neighbours without one",
         file(&[], &[ra(0, 1, 9, &[]), e("0 poll"), e("0 start 20010db8000000000000000000000007"), e("1 off")]),
     ));
+    // Checksums at the edge of 16 bits.
+    let mut rng = generate::Rng::new(1, 1);
+    for _ in 0..24 {
+        let source = format!("{:032x} 64", generate::carrying(&mut rng, 0x0200_0000_0001));
+        cases.push(("a checksum with carries", file(&[&source], &[e("0 up"), e("0 poll")])));
+    }
     // A full cache of one kind or two, and one more.
     let addr = |n: u32| format!("20010db800000000000000000000{n:04x}");
     let mut kinds: Vec<(&str, Vec<String>)> = Vec::new();
