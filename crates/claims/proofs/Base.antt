@@ -1,15 +1,15 @@
 -- Facts of tests, keys and lists of entries.
 use Prim.Native.Nat.{ℕ, _≤_}
-use native.Mathlib.Omega.{arith}
-use mathlib.Core.Path.{_≡_, refl, sym, ap, _∙_}
+use borrow.Author.Tests.{eq-eqb, eqb-true}
+use lib.Dec.{eqb}
+use lib.ListN.{length, length-append}
 use mathlib.Core.Bool.{Bool, true, false, cond, _&&_}
 use mathlib.Core.List.{List, [], _∷_, _++_}
-use lib.ListN.{length, length-append}
-use lib.Dec.{eqb}
-use borrow.Author.Tests.{eq-eqb, eqb-true}
-use Rattle.table.specs.Table.{lastOf, frontOf, lastFirst}
-use Rattle.neighbor.specs.declared.Entry.{Entry}
+use mathlib.Core.Path.{_≡_, refl, sym, ap, _∙_}
+use native.Mathlib.Omega.{arith}
 use Rattle.neighbor.specs.NeighborRules.{Table, Key, sameKey, isKey, entriesOf}
+use Rattle.neighbor.specs.declared.Entry.{Entry}
+use Rattle.table.specs.Table.{lastOf, frontOf, lastFirst}
 
 pub and-true : (a b : Bool) → (a && b) ≡ true → (a ≡ true) × (b ≡ true)
 and-true true b e = (refl, e)

@@ -1,52 +1,43 @@
 -- A run of calls on caches is a run on entries. Assumes nothing.
 use Prim.Native.Nat.{ℕ, zero, suc, _≤_}
-use native.Mathlib.Omega.{arith}
-use mathlib.Core.Path.{_≡_, refl, sym, ap, _∙_, subst}
-use mathlib.Core.Bool.{Bool, true, false, cond}
-use mathlib.Core.List.{List, [], _∷_, _++_, map}
-use lib.ListN.{length, take, drop, getD, set, replicate, length-map}
-use lib.Seq.{take-at}
-use lib.Dec.{ltb}
 use borrow.Author.Tests.{ltb-false}
-use Rattle.table.specs.Table.{filled, firstFrom, swapRemove, firstOf}
-use Rattle.time.specs.declared.Instant.{Instant}
-use Rattle.time.specs.declared.Clock.{Clock}
-use Rattle.wire.specs.declared.error.Check.{Check}
-use Rattle.wire.specs.declared.error.Check.the-variants.{Fine, Refused as Fails}
-use Rattle.neighbor.specs.declared.Entry.{Entry}
-use Rattle.neighbor.specs.declared.NeighborCache.{NeighborCache}
-use Rattle.neighbor.specs.declared.Answer.{Answer as Found}
-use Rattle.neighbor.specs.declared.Answer.the-variants.{Refused as Denied, Found as Known, Pending, NotFound}
-use Rattle.neighbor.specs.declared.Got.{Got}
-use Rattle.neighbor.specs.declared.Got.the-variants.{Refused as Rejected, Nothing, Is}
-use Rattle.neighbor.specs.declared.Changed.{Changed}
-use Rattle.neighbor.specs.declared.Removed.{Removed}
-use Rattle.neighbor.specs.declared.State.{State}
-use Rattle.neighbor.specs.declared.State.the-variants.{Started, Incomplete, Reachable, Stale}
-use Rattle.neighbor.specs.Answers.{answerOf}
-use Rattle.neighbor.specs.NeighborRules.{Table, Key, isKey, find, removeKey}
-use Rattle.neighbor.specs.CacheCalls.{key, entries, withEntries, changeBy, ChangedTo, lookupBy, getBy, removeBy, keyCheck, fillCheck, ifaceCheck, answerIn, shown, blank, atIndex}
-use Rattle.sweep.specs.declared.ProbeEvent.{ProbeEvent}
-use Rattle.sweep.specs.declared.ProbeEvent.the-variants.{Retransmit, Failed}
-use Rattle.sweep.specs.SweepRules.{Probe, Events, andThen, due, spent, probed, probe, probeAt, eventsFrom, expire, expireAll, sweepTable}
-use Rattle.sweep.specs.SweepRules.{nothing as no-probe, happens as probes}
-use Rattle.sweep.specs.SweepCalls.{ProbeIn, nothing, happens, probeIn, probeInAt, EventsIn, andThenIn, eventsIn, slotOf, blankEvent, eventsTable, probeAll, sweptIn, sweepBy, sweepCheck}
-use Rattle.claims.specs.Calls.{Call, lookup, start, fill, insert, get, at, remove, clear, sweep, check, meant, does, next, Answer, refused, done, looked, got, swept, answer, answerBy, effectBy, answers, tableAfter, reply}
-use Rattle.neighbor.specs.Distinct.{Distinct}
-use Rattle.claims.specs.Watch.{reportsAll}
-use Rattle.claims.specs.Demand3.{Demand3}
+use lib.Dec.{ltb}
+use lib.ListN.{length, getD, length-map}
+use lib.Seq.{take-at}
+use mathlib.Core.Bool.{Bool, true, false, cond}
+use mathlib.Core.List.{List, [], _∷_, map}
+use mathlib.Core.Path.{_≡_, refl, sym, ap, _∙_, subst}
+use native.Mathlib.Omega.{arith}
 use Rattle.claims.proofs.Demand3.{demand3}
 use Rattle.claims.specs.Caches.{ofLookup, ofGot, ofOutcome, ofSweep, eventOf, eventList, Step, looks-up, starts, fills, inserts, gets, lists, removes, clears, sweeps, Run, none, one-more, OnCaches}
-
--- the entries of a cache that was given entries are those
-entries-with : (c : NeighborCache) (xs : Table) → entries (withEntries c xs) ≡ xs
-entries-with c xs = take-at xs (drop (length xs) (c .slots)) (length xs) refl
+use Rattle.claims.specs.Calls.{Call, lookup, start, fill, insert, get, remove, clear, sweep, check, meant, does, next, Answer, done, looked, got, swept, answer, answerBy, effectBy, answers, tableAfter, reply}
+use Rattle.claims.specs.Watch.{reportsAll}
+use Rattle.neighbor.specs.Answers.{answerOf}
+use Rattle.neighbor.specs.CacheCalls.{key, entries, withEntries, changeBy, ChangedTo, lookupBy, getBy, removeBy, keyCheck, fillCheck, ifaceCheck, answerIn, shown, blank}
+use Rattle.neighbor.specs.Distinct.{Distinct}
+use Rattle.neighbor.specs.NeighborRules.{Table, Key, isKey, find, removeKey}
+use Rattle.neighbor.specs.declared.Answer.the-variants.{NotFound}
+use Rattle.neighbor.specs.declared.Changed.{Changed}
+use Rattle.neighbor.specs.declared.Entry.{Entry}
+use Rattle.neighbor.specs.declared.Got.the-variants.{Nothing}
+use Rattle.neighbor.specs.declared.NeighborCache.{NeighborCache}
+use Rattle.neighbor.specs.declared.Removed.{Removed}
+use Rattle.neighbor.specs.declared.State.the-variants.{Started, Incomplete, Reachable, Stale}
+use Rattle.neighbor.specs.declared.State.{State}
+use Rattle.sweep.proofs.Entries.{entries-of, sweep-entries, sweep-events}
+use Rattle.sweep.specs.SweepCalls.{nothing, slotOf, eventsTable, sweptIn, sweepBy, sweepCheck}
+use Rattle.sweep.specs.SweepRules.{sweepTable}
+use Rattle.sweep.specs.declared.ProbeEvent.{ProbeEvent}
+use Rattle.table.specs.Table.{swapRemove, firstOf}
+use Rattle.time.specs.declared.Clock.{Clock}
+use Rattle.wire.specs.declared.error.Check.the-variants.{Fine, Refused as Fails}
+use Rattle.wire.specs.declared.error.Check.{Check}
 
 -- a call that changes the entries
 changes : (x : Check) (call : Call) (c : NeighborCache) (xs : Table) → does (meant call) (entries c) ≡ xs → reply call (entries c) ≡ done
     → (ofOutcome (changeBy x c xs .outcome) ≡ answerBy x call (entries c)) × (entries (changeBy x c xs .cache) ≡ does (effectBy x call) (entries c))
 changes (Fails why) call c xs h g = (refl, refl)
-changes Fine call c xs h g = (sym g, entries-with c xs ∙ sym h)
+changes Fine call c xs h g = (sym g, entries-of c xs ∙ sym h)
 
 -- a call that does nothing to the entries
 quiet : (x : Check) (call : Call) (c : NeighborCache) → does (meant call) (entries c) ≡ entries c → entries c ≡ does (effectBy x call) (entries c)
@@ -113,67 +104,8 @@ removing Fine c k = go (ltb (find k (entries c)) (length (entries c))) refl
 
     go : (y : Bool) → ltb (find k (entries c)) (length (entries c)) ≡ y
         → (ofGot (outcome y .taken) ≡ got (cond y (shown e) Nothing)) × (entries (outcome y .cache) ≡ removeKey k (entries c))
-    go true h = (refl, entries-with c (removeKey k (entries c)))
+    go true h = (refl, entries-of c (removeKey k (entries c)))
     go false h = (refl, stays-put k (entries c) h)
-
--- the events of a sweep of a cache are those of its entries
-pub record Alike (r : EventsIn) (s : Events) : Type 0 where
-  pub events : r .events ≡ s .events
-  pub table : entries (r .cache) ≡ s .table
-
--- one event, and the rest of them
-goes-onIn : ℕ → ℕ → Instant → NeighborCache → ProbeIn → EventsIn
-goes-onIn n i now c p =
-    elim p [
-      | nothing ↦ record { events = []; cache = c }
-      | happens v c' place ↦ andThenIn v (eventsIn n i now c' place)
-    ]
-
-goes-on : ℕ → ℕ → Instant → Table → Probe → Events
-goes-on n i now t p =
-    elim p [
-      | no-probe ↦ record { events = []; table = t }
-      | probes v t' place ↦ andThen v (eventsFrom n i now t' place)
-    ]
-
-unfoldsIn : (n i : ℕ) (now : Instant) (c : NeighborCache) (place : ℕ) → eventsIn (suc n) i now c place ≡ goes-onIn n i now c (probeIn i now c place)
-unfolding eventsIn goes-onIn
-unfoldsIn n i now c place = refl
-
-unfolds : (n i : ℕ) (now : Instant) (t : Table) (place : ℕ) → eventsFrom (suc n) i now t place ≡ goes-on n i now t (probe i now t place)
-unfolding eventsFrom goes-on
-unfolds n i now t place = refl
-
-then-alike : (v : ProbeEvent) (r : EventsIn) (s : Events) → Alike r s → Alike (andThenIn v r) (andThen v s)
-then-alike v r s h = record { events = ap {B = List ProbeEvent} (λ l. v ∷ l) (h .events); table = h .table }
-
-one-event : (n i : ℕ) (now : Instant) (c : NeighborCache) (j : ℕ) (l : Table)
-    → ((d : NeighborCache) (place : ℕ) → Alike (eventsIn n i now d place) (eventsFrom n i now (entries d) place))
-    → Alike (goes-onIn n i now c (probeInAt now j c l)) (goes-on n i now (entries c) (probeAt now j (entries c) l))
-unfolding goes-onIn goes-on
-one-event n i now c j [] rest = record { events = refl; table = refl }
-one-event n i now c j (e ∷ l) rest = go (spent e)
-  where
-    moved : (xs : Table) (place : ℕ) → Alike (eventsIn n i now (withEntries c xs) place) (eventsFrom n i now xs place)
-    moved xs place = subst (λ (t : Table). Alike (eventsIn n i now (withEntries c xs) place) (eventsFrom n i now t place)) (entries-with c xs) (rest (withEntries c xs) place)
-
-    go : (x : Bool)
-        → Alike
-        (goes-onIn n i now c (cond x (happens (Failed (e .addr)) (withEntries c (swapRemove j (entries c))) j) (happens (Retransmit (e .addr)) (withEntries c (set (entries c) j (probed now e))) (suc j))))
-        (goes-on n i now (entries c) (cond x (probes (Failed (e .addr)) (swapRemove j (entries c)) j) (probes (Retransmit (e .addr)) (set (entries c) j (probed now e)) (suc j))))
-    go true = then-alike _ _ _ (moved (swapRemove j (entries c)) j)
-    go false = then-alike _ _ _ (moved (set (entries c) j (probed now e)) (suc j))
-
-pub alike : (n i : ℕ) (now : Instant) (c : NeighborCache) (place : ℕ) → Alike (eventsIn n i now c place) (eventsFrom n i now (entries c) place)
-unfolding eventsIn eventsFrom probeIn probe
-alike zero i now c place = record { events = refl; table = refl }
-alike (suc n) i now c place =
-    rw (unfoldsIn n i now c place, unfolds n i now (entries c) place)
-    (one-event n i now c (firstFrom (due i now) place (entries c)) (drop (firstFrom (due i now) place (entries c)) (entries c)) (λ d place'. alike n i now d place'))
-
-alike-with : (n i : ℕ) (now : Instant) (c : NeighborCache) (xs : Table) (place : ℕ) → Alike (eventsIn n i now (withEntries c xs) place) (eventsFrom n i now xs place)
-alike-with n i now c xs place =
-    subst (λ (t : Table). Alike (eventsIn n i now (withEntries c xs) place) (eventsFrom n i now t place)) (entries-with c xs) (alike n i now (withEntries c xs) place)
 
 -- the events' table lists the events
 map-slots : (vs : List ProbeEvent) → map eventOf (map slotOf vs) ≡ vs
@@ -184,29 +116,13 @@ listed-events : (vs : List ProbeEvent) → eventList (eventsTable vs) ≡ vs
 unfolding eventsTable
 listed-events vs = ap (map eventOf) (take-at (map slotOf vs) _ (length vs) (length-map vs slotOf)) ∙ map-slots vs
 
-expired-length : (now : Instant) (t : Table) → length (expireAll now t) ≡ length t
-unfolding expireAll
-expired-length now t = length-map t (expire now)
-
-sweep-alike : (c : NeighborCache) (i : ℕ) (now : Instant) → Alike (probeAll i now (withEntries c (expireAll now (entries c)))) (sweepTable i now (entries c))
-unfolding probeAll sweepTable
-sweep-alike c i now =
-    subst (λ (n : ℕ). Alike (eventsIn n i now (withEntries c xs) 0) (eventsFrom (length (entries c)) i now xs 0)) (sym as-many)
-    (alike-with (length (entries c)) i now c xs 0)
-  where
-    xs : Table
-    xs = expireAll now (entries c)
-
-    as-many : length (entries (withEntries c xs)) ≡ length (entries c)
-    as-many = ap {B = ℕ} length (entries-with c xs) ∙ expired-length now (entries c)
-
 sweeping : (x : Check) (c : NeighborCache) (k : Clock) (i : ℕ)
     → (ofSweep i (sweepBy x c k i .events) (sweepBy x c k i .outcome) ≡ answerBy x (sweep i (k .now)) (entries c))
     × (entries (sweepBy x c k i .cache) ≡ does (effectBy x (sweep i (k .now))) (entries c))
 unfolding sweptIn
 sweeping (Fails why) c k i = (refl, refl)
 sweeping Fine c k i =
-    (ap (swept i) (listed-events _ ∙ sweep-alike c i (k .now) .events), sweep-alike c i (k .now) .table)
+    (ap (swept i) (ap eventList (sweep-events c k i) ∙ listed-events (sweepTable i (k .now) (entries c) .events)), sweep-entries c k i)
 
 -- Steps and runs
 

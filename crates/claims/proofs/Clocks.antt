@@ -1,20 +1,20 @@
 -- Sweeps only bring the deadline forward. Assumes nothing.
 use Prim.Native.Nat.{ℕ}
-use mathlib.Core.Path.{_≡_, sym, ap, subst}
-use mathlib.Core.List.{List, [], _∷_}
-use Rattle.time.specs.declared.Clock.{Clock}
-use Rattle.time.specs.Forward.{Forward}
-use Rattle.time.proofs.Forward.{unmoved, then, scheduling, asking}
-use Rattle.wire.specs.declared.error.Check.{Check}
-use Rattle.wire.specs.declared.error.Check.the-variants.{Fine, Refused as Fails}
-use Rattle.neighbor.specs.declared.State.{State}
-use Rattle.neighbor.specs.declared.State.the-variants.{Started, Incomplete, Reachable, Stale}
-use Rattle.neighbor.specs.declared.NeighborCache.{NeighborCache}
-use Rattle.neighbor.specs.NeighborRules.{Table}
-use Rattle.sweep.specs.declared.Swept.{Swept}
-use Rattle.sweep.specs.SweepRules.{dueFrom, expireClockState, expireClock, expireClocks}
-use Rattle.sweep.specs.SweepCalls.{sweptIn, sweepBy, sweepCheck, SweptTo}
+use mathlib.Core.List.{[], _∷_}
+use mathlib.Core.Path.{sym, subst}
 use Rattle.claims.specs.Clocks.{Clocks}
+use Rattle.neighbor.specs.NeighborRules.{Table}
+use Rattle.neighbor.specs.declared.NeighborCache.{NeighborCache}
+use Rattle.neighbor.specs.declared.State.the-variants.{Started, Incomplete, Reachable, Stale}
+use Rattle.neighbor.specs.declared.State.{State}
+use Rattle.sweep.specs.SweepCalls.{sweptIn, sweepBy, sweepCheck}
+use Rattle.sweep.specs.SweepRules.{dueFrom, expireClockState, expireClock, expireClocks}
+use Rattle.sweep.specs.declared.Swept.{Swept}
+use Rattle.time.proofs.Forward.{unmoved, then, scheduling, asking}
+use Rattle.time.specs.Forward.{Forward}
+use Rattle.time.specs.declared.Clock.{Clock}
+use Rattle.wire.specs.declared.error.Check.the-variants.{Fine, Refused as Fails}
+use Rattle.wire.specs.declared.error.Check.{Check}
 
 expiry-forward : (k : Clock) (s : State) → Forward k (expireClockState k s)
 expiry-forward k Started = scheduling k (dueFrom (k .now))

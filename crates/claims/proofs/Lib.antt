@@ -8,3 +8,5 @@ pub mod Demand3
 pub mod Traces
 pub mod Caches
 pub mod Clocks
+pub mod Early
+pub mod Examples

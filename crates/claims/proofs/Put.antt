@@ -1,23 +1,23 @@
 -- What the calls that put or remove an entry do to one key.
 use Prim.Native.Nat.{ℕ, zero, suc, _≤_, _<_}
-use native.Mathlib.Omega.{arith}
-use mathlib.Core.Path.{_≡_, refl, sym, ap, _∙_, subst}
-use mathlib.Core.Logic.{_⊎_, inl, inr}
-use mathlib.Core.Bool.{Bool, true, false, cond, _&&_, _||_, true≢false}
-use mathlib.Core.List.{List, [], _∷_, _++_}
+use borrow.Author.Tests.{eqb-true, ltb-true, ltb-false}
+use lib.Dec.{ltb, eqb}
 use lib.ListN.{length, length-append, set, drop, getD, length-set, length-drop}
 use lib.Seq.{append-snoc, getD-at}
-use lib.Dec.{ltb, eqb}
-use borrow.Author.Tests.{eqb-true, ltb-true, ltb-false}
-use Rattle.table.specs.Table.{firstFrom, swapRemove, kept}
-use Rattle.neighbor.specs.declared.State.{State}
-use Rattle.neighbor.specs.declared.State.the-variants.{Started, Incomplete, Reachable, Stale}
-use Rattle.neighbor.specs.declared.Entry.{Entry}
-use Rattle.neighbor.specs.NeighborRules.{Table, Key, sameKey, keyOf, entry, isKey, find, kind, time, before, victimFrom, victim, insertState, removeKey, onIface, clearIface, entriesOf}
-use Rattle.claims.specs.Calls.{at}
-use Rattle.claims.specs.Watch.{isFilled, anyFilled}
+use mathlib.Core.Bool.{Bool, true, false, cond, _&&_, _||_, true≢false}
+use mathlib.Core.List.{List, [], _∷_, _++_}
+use mathlib.Core.Logic.{_⊎_, inl, inr}
+use mathlib.Core.Path.{_≡_, refl, sym, ap, _∙_, subst}
+use native.Mathlib.Omega.{arith}
 use Rattle.claims.proofs.Base.{and-true, sameKey-true, sameKey-refl, entries-append, append-nil, entries-lastFirst, length-lastFirst}
 use Rattle.claims.proofs.Walk.{tail-few}
+use Rattle.claims.specs.Calls.{at}
+use Rattle.claims.specs.Watch.{isFilled, anyFilled}
+use Rattle.neighbor.specs.NeighborRules.{Table, Key, sameKey, keyOf, entry, isKey, find, kind, time, before, victimFrom, victim, insertState, removeKey, onIface, clearIface, entriesOf}
+use Rattle.neighbor.specs.declared.Entry.{Entry}
+use Rattle.neighbor.specs.declared.State.the-variants.{Started, Incomplete, Reachable, Stale}
+use Rattle.neighbor.specs.declared.State.{State}
+use Rattle.table.specs.Table.{firstFrom, swapRemove, kept}
 
 -- an entry of key k is of no other key
 not-both : (j k : Key) (e : Entry) → sameKey j k ≡ false → isKey k e ≡ true → isKey j e ≡ false

@@ -1,9 +1,9 @@
 -- The runs of `Traces`, computed. Assumes nothing.
 use mathlib.Core.Path.{refl}
-use Rattle.neighbor.specs.NeighborRules.{sameKey, find, before, insertState, removeKey, onIface}
-use Rattle.sweep.specs.SweepRules.{expireAll, due, spent, probe, eventsFrom, sweepTable}
 use Rattle.claims.specs.Calls.{check}
 use Rattle.claims.specs.Traces.{Traces}
+use Rattle.neighbor.specs.NeighborRules.{sameKey, find, before, insertState, removeKey, onIface}
+use Rattle.sweep.specs.SweepRules.{expireAll, due, spent, probe, eventsFrom, sweepTable}
 
 pub traces : Traces
 unfolding sameKey find before insertState removeKey onIface expireAll due spent probe eventsFrom sweepTable check
