@@ -1,28 +1,31 @@
 -- What each call, and each run of calls, does to one key. Assumes nothing.
 use Prim.Native.Nat.{ℕ, _^_, _≤_}
-use borrow.Author.Tests.{ltb-false}
-use lib.Dec.{T, ltb, eqb}
-use lib.ListN.{length}
+use native.Mathlib.Omega.{arith}
+use mathlib.Core.Path.{_≡_, refl, ap, _∙_}
+use mathlib.Core.Logic.{_⊎_, inl, inr}
 use mathlib.Core.Bool.{Bool, true, false, cond, not, _&&_, true≢false}
 use mathlib.Core.List.{List, [], _∷_}
-use mathlib.Core.Logic.{_⊎_, inl, inr}
-use mathlib.Core.Path.{_≡_, refl, ap, _∙_}
-use native.Mathlib.Omega.{arith}
-use Rattle.claims.proofs.Base.{sameKey-true}
-use Rattle.claims.proofs.Put.{Evicted, put-own, put-other, remove-own, remove-other, clear-own, clear-other, put-length, remove-length, kept-length}
-use Rattle.claims.proofs.Sweep.{sweep-entries, sweep-tells, watch-sweeps, told-sweeps, sweep-few, sweep-length}
-use Rattle.claims.specs.Calls.{silence, address, Call, lookup, start, fill, insert, get, at, remove, clear, sweep, advertise, turnOff, check, Effect, nothing, puts, removes, clears, sweeps, meant, effectBy, effect, does, next, reply, answerBy, answer, answers, tableAfter}
-use Rattle.claims.specs.Watch.{reportsIn, reportsAll, gone, watchOfState, watchOf, watchEffect, toldEffect, watchCall, toldBy, watchAll, toldAll, ownsEffect, owns, isSweepEffect, isSweep, putsOtherEffect, held, evicts, Kept, toldRun, isFilled, anyFilled}
-use Rattle.neighbor.specs.CacheCalls.{keyCheck, fillCheck, ifaceCheck}
-use Rattle.neighbor.specs.Distinct.{Distinct}
-use Rattle.neighbor.specs.NeighborRules.{Table, Key, sameKey, insertState, removeKey, onIface, clearIface, entriesOf}
-use Rattle.neighbor.specs.declared.State.{State}
+use lib.ListN.{length}
+use lib.Dec.{T, ltb, eqb}
+use borrow.Author.Tests.{ltb-false}
 use Rattle.table.specs.Table.{kept}
 use Rattle.time.specs.declared.Instant.{Instant}
-use Rattle.wire.specs.Refusals.{firstRefusal, tooLate, noSuchIface}
-use Rattle.wire.specs.declared.error.Check.the-variants.{Fine, Refused as Fails}
-use Rattle.wire.specs.declared.error.Check.{Check}
 use Rattle.wire.specs.declared.error.Refusal.the-variants.{TooLate, NoSuchIface}
+use Rattle.wire.specs.declared.error.Check.{Check}
+use Rattle.wire.specs.declared.error.Check.the-variants.{Fine, Refused as Fails}
+use Rattle.wire.specs.Refusals.{firstRefusal, tooLate, noSuchIface}
+use Rattle.neighbor.specs.declared.State.{State}
+use Rattle.neighbor.specs.NeighborRules.{Table, Key, sameKey, insertState, removeKey, onIface, clearIface, entriesOf}
+use Rattle.neighbor.specs.CacheCalls.{keyCheck, fillCheck, ifaceCheck}
+use Rattle.neighbor.specs.Distinct.{Distinct}
+use Rattle.neighbor.proofs.Keys.{sameKey-true}
+use Rattle.neighbor.proofs.OneKey.{put-own, remove-own, remove-other, clear-own, clear-other}
+use Rattle.neighbor.proofs.Distinct.{distinct-put, distinct-remove, distinct-clear}
+use Rattle.claims.specs.Calls.{silence, address, Call, lookup, start, fill, insert, get, at, remove, clear, sweep, advertise, turnOff, check, Effect, nothing, puts, removes, clears, sweeps, meant, effectBy, effect, does, next, reply, answerBy, answer, answers, tableAfter}
+use Rattle.claims.specs.Watch.{reportsIn, reportsAll, gone, watchOfState, watchOf, watchEffect, toldEffect, watchCall, toldBy, watchAll, toldAll, ownsEffect, owns, isSweepEffect, isSweep, putsOtherEffect, held, evicts, Kept, toldRun, isFilled, anyFilled}
+use Rattle.claims.proofs.Base.{kept-length}
+use Rattle.claims.proofs.Put.{Evicted, put-apart, put-length, remove-length}
+use Rattle.claims.proofs.Sweep.{sweep-entries, sweep-tells, watch-sweeps, told-sweeps, sweep-few, sweep-length}
 
 -- Effects
 
@@ -38,36 +41,11 @@ InTime (clears i) = Unit {0}
 InTime (sweeps i now) = now .0 ≤ 2 ^ 62
 
 -- keys stay distinct
-put-few : (k j : Key) (s : State) (t : Table) → Distinct t → length (entriesOf k (insertState j s t)) ≤ 1
-put-few k j s t d = go (sameKey k j) refl
-  where
-    other : (entriesOf k (insertState j s t) ≡ entriesOf k t) ⊎ Evicted k t (insertState j s t) → length (entriesOf k (insertState j s t)) ≤ 1
-    other (inl h) = rw h (d .once k)
-    other (inr h) = rw (h .freed) (omega arith)
-
-    go : (x : Bool) → sameKey k j ≡ x → length (entriesOf k (insertState j s t)) ≤ 1
-    go true h = rw (sameKey-true k j h, put-own j s t (d .once j)) (omega arith)
-    go false h = other (put-other k j s t h (d .once k))
-
-remove-few : (k j : Key) (t : Table) → Distinct t → length (entriesOf k (removeKey j t)) ≤ 1
-remove-few k j t d = go (sameKey k j) refl
-  where
-    go : (x : Bool) → sameKey k j ≡ x → length (entriesOf k (removeKey j t)) ≤ 1
-    go true h = rw (sameKey-true k j h, remove-own j t (d .once j)) (omega arith)
-    go false h = rw (remove-other k j t h (d .once k)) (d .once k)
-
-clear-few : (k : Key) (i : ℕ) (t : Table) → Distinct t → length (entriesOf k (clearIface i t)) ≤ 1
-clear-few k i t d = go (eqb i (k .iface)) refl
-  where
-    go : (x : Bool) → eqb i (k .iface) ≡ x → length (entriesOf k (clearIface i t)) ≤ 1
-    go true h = rw (clear-own k i t h) (omega arith)
-    go false h = rw (clear-other k i t h) (d .once k)
-
 pub distinct-does : (v : Effect) (t : Table) → Distinct t → Distinct (does v t)
 distinct-does nothing t d = d
-distinct-does (puts j s) t d = record { once = λ k. put-few k j s t d }
-distinct-does (removes j) t d = record { once = λ k. remove-few k j t d }
-distinct-does (clears i) t d = record { once = λ k. clear-few k i t d }
+distinct-does (puts j s) t d = distinct-put j s t d
+distinct-does (removes j) t d = distinct-remove j t d
+distinct-does (clears i) t d = distinct-clear i t d
 distinct-does (sweeps i now) t d = record { once = λ k. sweep-few k i now t (d .once k) }
 
 -- a table holds at most 16 entries
@@ -82,7 +60,7 @@ fits-does (sweeps i now) t h = omega (arith, sweep-length i now t)
 put-keeps : (k j : Key) (s : State) (t : Table) → Distinct t → sameKey k j ≡ false
     → T (not (not (sameKey k j) && (held (entriesOf k t) && not (held (entriesOf k (insertState j s t))))))
     → entriesOf k (insertState j s t) ≡ entriesOf k t
-put-keeps k j s t d other kept = go (put-other k j s t other (d .once k))
+put-keeps k j s t d other kept = go (put-apart k j s t other (d .once k))
   where
     none : (l : List State) → T (not (held l && true)) → [] ≡ l
     none [] h = refl
@@ -119,7 +97,7 @@ put-evicts k j s t d ev = go (sameKey k j) refl ev
 
     go : (x : Bool) → sameKey k j ≡ x → T (not x && (held (entriesOf k t) && not (held (entriesOf k (insertState j s t))))) → Evicted k t (insertState j s t)
     go true h e = absurd e
-    go false h e = by (put-other k j s t h (d .once k)) e
+    go false h e = by (put-apart k j s t h (d .once k)) e
 
 pub does-evicts : (k : Key) (v : Effect) (t : Table) → Distinct t → T (effectEvicts k v t)
     → (16 ≤ length t) × ((s : State) → entriesOf k t ≡ s ∷ [] → isFilled s ≡ false → anyFilled t ≡ false)

@@ -8,7 +8,7 @@ use mathlib.Core.Bool.{Bool, true, false, cond, _&&_, true≢false}
 use mathlib.Core.List.{List, [], _∷_, _++_}
 use mathlib.Core.Path.{_≡_, refl, sym, ap, _∙_, subst}
 use native.Mathlib.Omega.{arith}
-use Rattle.claims.proofs.Base.{and-true}
+use Rattle.neighbor.proofs.Keys.{and-true}
 use Rattle.claims.specs.Early.{All, stands, LastsTo, Spares, routeStands, RouterLastsTo, RouterSpares}
 use Rattle.iface.specs.AddressRules.{isAddr, isFromSlaac, slaacAddr, refreshed, gone, putAddr, dropAddr, anywhere}
 use Rattle.iface.specs.RouteRules.{isSlaac, isRoute, isInstalled, isLearned, extended, noneLeft, putRoute, dropRoute, clearRoutes}

@@ -1,22 +1,23 @@
 -- The probe events of a sweep as one walk over the entries, and what it does to one key.
 use Prim.Native.Nat.{ℕ, zero, suc, _≤_}
-use borrow.Author.Tests.{eqb-true}
-use lib.Dec.{eqb}
-use lib.ListN.{length}
+use native.Mathlib.Omega.{arith}
+use mathlib.Core.Path.{_≡_, refl, ap, _∙_}
 use mathlib.Core.Bool.{Bool, true, false, cond, _&&_}
 use mathlib.Core.List.{List, [], _∷_, _++_}
-use mathlib.Core.Path.{_≡_, refl, ap, _∙_}
-use native.Mathlib.Omega.{arith}
-use Rattle.claims.proofs.Base.{and-true, sameKey-true, entries-lastFirst, length-lastFirst}
-use Rattle.claims.specs.Watch.{Report, retransmission, failure, reportsOf}
-use Rattle.neighbor.specs.CacheCalls.{key}
-use Rattle.neighbor.specs.NeighborRules.{Table, Key, sameKey, keyOf, isKey, onIface, entriesOf}
-use Rattle.neighbor.specs.declared.Entry.{Entry}
-use Rattle.neighbor.specs.declared.State.{State}
-use Rattle.sweep.specs.SweepRules.{dueState, due, spentState, spent, probedState, probed, Events, andThen}
-use Rattle.sweep.specs.declared.ProbeEvent.the-variants.{Retransmit, Failed}
+use lib.ListN.{length}
+use lib.Dec.{eqb}
+use borrow.Author.Tests.{eqb-true}
 use Rattle.table.specs.Table.{lastFirst}
 use Rattle.time.specs.declared.Instant.{Instant}
+use Rattle.neighbor.specs.declared.State.{State}
+use Rattle.neighbor.specs.declared.Entry.{Entry}
+use Rattle.neighbor.specs.NeighborRules.{Table, Key, sameKey, keyOf, isKey, onIface, entriesOf}
+use Rattle.neighbor.specs.CacheCalls.{key}
+use Rattle.neighbor.proofs.Keys.{and-true, sameKey-true, entries-lastFirst, tail-few}
+use Rattle.sweep.specs.declared.ProbeEvent.the-variants.{Retransmit, Failed}
+use Rattle.sweep.specs.SweepRules.{dueState, due, spentState, spent, probedState, probed, Events, andThen}
+use Rattle.claims.specs.Watch.{Report, retransmission, failure, reportsOf}
+use Rattle.claims.proofs.Base.{length-lastFirst}
 
 abbrev pub keep : Entry → Events → Events
 keep e r = record { events = r .events; table = e ∷ r .table }
@@ -106,13 +107,6 @@ tells-other k i now e fails goes l other hf hg = step (due i now e) (spent e) re
     step true true d = rw (event-key k i now e d, other, hf)
     step true false d = rw (event-key k i now e d, other, hg)
     step false y d = hg
-
-pub tail-few : (k : Key) (e : Entry) (t : Table) → length (entriesOf k (e ∷ t)) ≤ 1 → length (entriesOf k t) ≤ 1
-tail-few k e t h = step (isKey k e) h
-  where
-    step : (x : Bool) → length (cond x (e .state ∷ entriesOf k t) (entriesOf k t)) ≤ 1 → length (entriesOf k t) ≤ 1
-    step true g = omega arith
-    step false g = g
 
 -- what a walk does to the entries of a key, and what it reports of it
 pub walk-entries : (n : ℕ) (k : Key) (i : ℕ) (now : Instant) (r : Table) → length r ≤ n → length (entriesOf k r) ≤ 1
