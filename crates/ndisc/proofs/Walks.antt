@@ -9,14 +9,19 @@ use mathlib.Core.List.{List, [], _∷_}
 use mathlib.Core.Path.{_≡_, refl, sym, ap, _∙_}
 use native.Mathlib.Omega.{arith}
 use Rattle.ndisc.proofs.Malformed.{has, refused-means, well-means}
-use Rattle.ndisc.specs.OptionWalk.{past, Options, none, one, nextOf, walk, optionsFrom, walked, optionsOf}
+use Rattle.ndisc.specs.Answers.{walkNumber, nextNumber}
+use Rattle.ndisc.specs.OptionWalk.{past, Options, none, one, nextOf, walk, optionsFrom, walked, optionsOf, stopped, Says, Walks, Steps}
 use Rattle.ndisc.specs.Rfc4861Options.{malformed, optionOf, checkedOf}
 use Rattle.ndisc.specs.declared.ndiscoption.Checked.the-variants.{Refused, Well}
 use Rattle.ndisc.specs.declared.ndiscoption.Checked.{Checked}
 use Rattle.ndisc.specs.declared.ndiscoption.NdiscOption.{NdiscOption}
 use Rattle.ndisc.specs.declared.ndiscoption.Next.the-variants.{End, Malformed, Option}
+use Rattle.ndisc.specs.declared.ndiscoption.Next.{Next}
 use Rattle.ndisc.specs.declared.ndiscoption.Walk.the-variants.{Clean, MalformedAt}
 use Rattle.ndisc.specs.declared.ndiscoption.Walk.{Walk}
+use Rattle.wire.specs.Refusals.{checkNumber}
+use Rattle.wire.specs.declared.error.Check.the-variants.{Fine, Refused as Fails}
+use Rattle.wire.specs.declared.error.Refusal.the-variants.{Malformed as MalformedOption}
 use Rattle.wire.specs.declared.error.Refusal.{Refusal}
 
 -- the part `&msg[at..]` is what is left of the message
@@ -55,19 +60,32 @@ check-refused msg at why e g = refused-means (drop at msg) why (ap checkedOf (sy
 
 -- What `next_option` answers
 
-pub next-end : (msg : List ℕ) (at : ℕ) → length msg ≤ at → nextOf msg at ≡ End
-next-end msg at h = simp (le-ltb at (length msg) h)
+next-number : (t m : Bool) (o : NdiscOption) (p : ℕ) → nextNumber (cond t (cond m Malformed (Option o p)) End) ≡ cond t (cond m 1 0) 0
+next-number true true o p = refl
+next-number true false o p = refl
+next-number false m o p = refl
 
-pub next-malformed : (msg : List ℕ) (at : ℕ) → at < length msg → malformed (drop at msg) ≡ true → nextOf msg at ≡ Malformed
-next-malformed msg at h m = simp (lt-ltb at (length msg) h, m)
+steps : (msg : List ℕ) (at : ℕ) {r : Next} → nextOf msg at ≡ r → Steps msg at r
+steps msg at e =
+    record {
+      is = sym e;
+      number = ap nextNumber (sym e) ∙ next-number (ltb at (length msg)) (malformed (drop at msg)) (optionOf (drop at msg)) (past msg at);
+    }
+
+pub next-end : (msg : List ℕ) (at : ℕ) → length msg ≤ at → Steps msg at End
+next-end msg at h = steps msg at (simp (le-ltb at (length msg) h))
+
+pub next-malformed : (msg : List ℕ) (at : ℕ) → at < length msg → malformed (drop at msg) ≡ true → Steps msg at Malformed
+next-malformed msg at h m = steps msg at (simp (lt-ltb at (length msg) h, m))
 
 next-by : (t m : Bool) → t ≡ true → m ≡ false → (o : NdiscOption) (p : ℕ) → cond t (cond m Malformed (Option o p)) End ≡ Option o p
 next-by t m e f o p = simp (e, f)
 
-pub next-step : (msg : List ℕ) (at : ℕ) (o : NdiscOption) (n : ℕ) → Stepped msg at o n → nextOf msg at ≡ Option o (at + 8 * n)
+pub next-step : (msg : List ℕ) (at : ℕ) (o : NdiscOption) (n : ℕ) → Stepped msg at o n → Steps msg at (Option o (at + 8 * n))
 next-step msg at o n s =
-    next-by (ltb at (length msg)) (malformed (drop at msg)) (lt-ltb at (length msg) (omega arith)) (s .well) (optionOf (drop at msg)) (past msg at)
-    ∙ (λ i. Option (s .option i) (s .to i))
+    steps msg at
+    (next-by (ltb at (length msg)) (malformed (drop at msg)) (lt-ltb at (length msg) (omega arith)) (s .well) (optionOf (drop at msg)) (past msg at)
+    ∙ (λ i. Option (s .option i) (s .to i)))
 
 -- More turns than enough change nothing
 
@@ -202,16 +220,12 @@ options-malformed msg at to os (one {os = rest} w o) h m =
 
 -- .. and the other way round: what the walk answers says which options stand one after the other
 
-abbrev Found : List ℕ → ℕ → Walk → Type 0
-Found msg at Clean = (to : ℕ) × (length msg ≤ to) × Options msg at to (optionsOf msg at)
-Found msg at (MalformedAt p) = (p < length msg) × (malformed (drop p msg) ≡ true) × Options msg at p (optionsOf msg at)
-
-on-found : (msg : List ℕ) (at : ℕ) (w : Walk) → malformed (drop at msg) ≡ false → Found msg (past msg at) w → Found msg at w
+on-found : (msg : List ℕ) (at : ℕ) (w : Walk) → malformed (drop at msg) ≡ false → Says msg (past msg at) w → Says msg at w
 on-found msg at Clean w (to, h, o) = (to, h, rw (options-on msg at w) (one w o))
 on-found msg at (MalformedAt p) w (h, m, o) = (h, m, rw (options-on msg at w) (one w o))
 
 found-here : (msg : List ℕ) (at : ℕ) (t m : Bool) → ltb at (length msg) ≡ t → malformed (drop at msg) ≡ m
-    → (malformed (drop at msg) ≡ false → Found msg (past msg at) (walked msg (past msg at))) → Found msg at (walked msg at)
+    → (malformed (drop at msg) ≡ false → Says msg (past msg at) (walked msg (past msg at))) → Says msg at (walked msg at)
 found-here msg at false m e f k =
     let h = ltb-false at (length msg) e in
     rw (walked-end msg at h) (at, h, rw (options-end msg at h) none)
@@ -220,7 +234,7 @@ found-here msg at true true e f k =
     rw (walked-stop msg at h f) (h, f, rw (options-stop msg at f) none)
 found-here msg at true false e f k = rw (walked-on msg at f) (on-found msg at (walked msg (past msg at)) f (k f))
 
-finds : (n : ℕ) (msg : List ℕ) (at : ℕ) → length msg ≤ n + at → Found msg at (walked msg at)
+finds : (n : ℕ) (msg : List ℕ) (at : ℕ) → length msg ≤ n + at → Says msg at (walked msg at)
 finds zero msg at h =
     let k : length msg ≤ at = omega arith in
     rw (walked-end msg at k) (at, k, rw (options-end msg at k) none)
@@ -228,13 +242,23 @@ finds (suc n) msg at h =
     found-here msg at (ltb at (length msg)) (malformed (drop at msg)) refl refl
     (λ w. finds n msg (past msg at) (omega (arith, ahead msg at w .further)))
 
+says-number : (w : Walk) → walkNumber w ≡ checkNumber (cond (stopped w) (Fails MalformedOption) Fine)
+says-number Clean = refl
+says-number (MalformedAt p) = refl
+
+pub walks : (msg : List ℕ) (from : ℕ) {r : Walk} → walked msg from ≡ r → Walks msg from r
+walks msg from {r} e =
+    let w : Walks msg from (walked msg from) =
+    record { is = refl; number = says-number (walked msg from); words = finds (length msg) msg from (omega arith) } in
+    rw e at w
+
 pub clean-options : (msg : List ℕ) (at : ℕ) → walked msg at ≡ Clean
     → (to : ℕ) × (length msg ≤ to) × Options msg at to (optionsOf msg at)
-clean-options msg at e = rw e at (finds (length msg) msg at (omega arith))
+clean-options msg at e = walks msg at e .words
 
 pub malformed-options : (msg : List ℕ) (at p : ℕ) → walked msg at ≡ MalformedAt p
     → (p < length msg) × (malformed (drop p msg) ≡ true) × Options msg at p (optionsOf msg at)
-malformed-options msg at p e = rw e at (finds (length msg) msg at (omega arith))
+malformed-options msg at p e = walks msg at e .words
 
 -- options that begin within the message end within it
 pub within : (msg : List ℕ) (at to : ℕ) (os : List NdiscOption) → Options msg at to os → at ≤ length msg → to ≤ length msg

@@ -1,11 +1,11 @@
 -- The options of a message from a place on, one after the other. Assumes nothing.
-use Prim.Native.Nat.{ℕ, zero, suc, _+_, _*_}
+use Prim.Native.Nat.{ℕ, zero, suc, _+_, _*_, _<_, _≤_}
 use mathlib.Core.Path.{_≡_}
 use mathlib.Core.List.{List, [], _∷_}
-use mathlib.Core.Bool.{Bool, false, cond}
+use mathlib.Core.Bool.{Bool, true, false, cond}
 use lib.ListN.{length, drop}
 use lib.Dec.{ltb}
-use Rattle.wire.specs.Refusals.{Row}
+use Rattle.wire.specs.Refusals.{Row, firstRefusal, checkNumber}
 use Rattle.wire.specs.declared.error.Refusal.the-variants.{Malformed as MalformedOption}
 use Rattle.ndisc.specs.declared.ndiscoption.NdiscOption.{NdiscOption}
 use Rattle.ndisc.specs.declared.ndiscoption.Walk.{Walk}
@@ -61,3 +61,18 @@ stopped w = ltb 0 (walkNumber w)
 
 abbrev pub malformedOption : List ℕ → ℕ → Row
 malformedOption msg from = record { refusal = MalformedOption; fails = stopped (walked msg from) }
+
+-- what the walk's answer says in words: well-formed options one after the other, up to the end, or up to one that is malformed
+abbrev pub Says : List ℕ → ℕ → Walk → Type 0
+Says msg from Clean = (to : ℕ) × (length msg ≤ to) × Options msg from to (optionsOf msg from)
+Says msg from (MalformedAt p) = (p < length msg) × (malformed (drop p msg) ≡ true) × Options msg from p (optionsOf msg from)
+
+pub record Walks (msg : List ℕ) (from : ℕ) (r : Walk) : Type 0 where
+  pub is : r ≡ walked msg from
+  pub number : walkNumber r ≡ checkNumber (firstRefusal (malformedOption msg from ∷ []))
+  pub words : Says msg from r
+
+-- a step of a walk: what stands at the place; 1 if it is a malformed option
+pub record Steps (msg : List ℕ) (at : ℕ) (r : Next) : Type 0 where
+  pub is : r ≡ nextOf msg at
+  pub number : nextNumber r ≡ cond (ltb at (length msg)) (cond (malformed (drop at msg)) 1 0) 0

@@ -8,7 +8,7 @@ ghost use Rattle.wire.specs.Rfc2464.{hardwareAt};
 ghost use Rattle.wire.specs.Rfc4291.{addressAt, addressBytes};
 ghost use Rattle.ndisc.specs.Rfc4861Options.{byte, flag, prefixAt, optionOf, dataOf};
 ghost use Rattle.ndisc.specs.OptionCalls.{least, Measured, Checks, linkLayerBytes, prefixBytes, mtuBytes, Wrote};
-ghost use Rattle.ndisc.specs.OptionWalk.{walked, nextOf};
+ghost use Rattle.ndisc.specs.OptionWalk.{Steps, Walks};
 use crate::bit;
 use crate::put_four;
 use crate::put8;
@@ -273,7 +273,7 @@ pub fn write_mtu(msg: &mut [u8], at: usize, mtu: u32) -> Written
 
 // What stands at a place: every loop over the options is made of this step.
 pub fn next_option(msg: &[u8], at: usize) -> Next
-    ensures { λ r. ⌜ r ≡ nextOf (now (msg .entry)) at ⌝ }
+    ensures { λ r. ⌜ Steps (now (msg .entry)) at r ⌝ }
 {
     if msg.len() <= at {
         return Next::End;
@@ -289,7 +289,7 @@ pub fn next_option(msg: &[u8], at: usize) -> Next
 
 // Whether the options from place `from` to the end of the message are all well formed. The walk is left at the first that is not.
 pub fn check_options(msg: &[u8], from: usize) -> Walk
-    ensures { λ r. ⌜ r ≡ walked (now (msg .entry)) from ⌝ }
+    ensures { λ r. ⌜ Walks (now (msg .entry)) from r ⌝ }
 {
     let mut at = from;
     loop {
