@@ -101,6 +101,8 @@ pub trait Side {
     /// The option at the front: what it holds, and its data as (from, up to). None if malformed.
     fn option(&mut self, bytes: &[u8]) -> Option<(Held, usize, usize)>;
     fn write(&mut self, message: &mut [u8], place: usize, option: &ToWrite) -> Result<(), Refused>;
+    /// A solicitation from a link-local address, in the first bytes of a buffer; false if there is no room.
+    fn solicit(&mut self, buffer: &mut [u8], source: Addr, mac: Mac) -> bool;
 
     fn lookup(&mut self, iface: u8, addr: Addr) -> Result<Lookup, Refused>;
     fn start(&mut self, iface: u8, addr: Addr) -> Result<(), Refused>;
@@ -265,6 +267,11 @@ fn call(side: &mut dyn Side, line: &str) -> Option<Result<String, Refused>> {
             };
             f.end()?;
             side.write(&mut message, place, &option).map(|()| hex(&message))
+        }
+        "solicit" => {
+            let (mut buffer, source, mac) = (f.bytes()?, f.addr()?, f.mac()?);
+            f.end()?;
+            Ok(if side.solicit(&mut buffer, source, mac) { hex(&buffer) } else { format!("noroom {}", hex(&buffer)) })
         }
         "lookup" => {
             let (iface, addr) = (f.small()?, f.addr()?);
@@ -541,6 +548,21 @@ impl Side for Real {
         }
         world::write_option(&mut message[place..], &option);
         Ok(())
+    }
+
+    /// What a first poll sends.
+    fn solicit(&mut self, buffer: &mut [u8], source: Addr, mac: Mac) -> bool {
+        let mut world = World::new([mac; world::IFACES]);
+        world.push_static(0, source, 64);
+        world.set_link(0, true);
+        match world.poll(0, 0, None, buffer.len() >= 16).0 {
+            world::Poll::Solicit(message) => {
+                buffer[..16].copy_from_slice(&message);
+                true
+            }
+            world::Poll::NoRoom => false,
+            _ => panic!("the source is not link-local"),
+        }
     }
 
     fn lookup(&mut self, iface: u8, addr: Addr) -> Result<Lookup, Refused> {
@@ -849,6 +871,14 @@ impl Side for Modelled {
             ToWrite::Mtu(mtu) => [&[5, 1, 0, 0][..], &mtu.to_be_bytes()].concat(),
         };
         if model::write_at(message, place, &bytes) { Ok(()) } else { Err(4) }
+    }
+
+    fn solicit(&mut self, buffer: &mut [u8], source: Addr, mac: Mac) -> bool {
+        let Some(front) = buffer.get_mut(..16) else {
+            return false;
+        };
+        front.copy_from_slice(&model::solicitation(big(source), big_mac(mac)));
+        true
     }
 
     fn lookup(&mut self, iface: u8, addr: Addr) -> Result<Lookup, Refused> {

@@ -994,6 +994,17 @@ impl Maker {
 
     fn option_call(&mut self) -> String {
         let hex = |b: &[u8]| if b.is_empty() { "-".into() } else { crate::text::hex(b) };
+        if self.rng.one_in(6) {
+            let len = self.rng.of(&[0, 15, 16, 16, 16, 17, 40]);
+            let buffer: Vec<u8> = (0..len).map(|_| self.rng.next() as u8).collect();
+            let mac = if self.rng.one_in(2) { self.file.mac } else { self.rng.next() >> 16 };
+            let source = if self.rng.one_in(3) {
+                LINK_LOCAL | u128::from(self.rng.next())
+            } else {
+                carrying(&mut self.rng, mac)
+            };
+            return format!("solicit {} {source:032x} {mac:012x}", hex(&buffer));
+        }
         if self.rng.one_in(3) {
             let len = self.rng.of(&[0, 7, 8, 9, 15, 31, 32, 33, 40, 64]);
             let message: Vec<u8> = (0..len).map(|_| self.rng.next() as u8).collect();

@@ -311,6 +311,18 @@ pub fn checksum(src: Addr, dst: Addr, message: &[u8]) -> u16 {
     !(sum as u16)
 }
 
+/// RFC 4861 4.1: a solicitation to all routers with its source's hardware address.
+pub fn solicitation(source: Addr, mac: Mac) -> [u8; 16] {
+    let mut message = [0; 16];
+    message[0] = 133;
+    message[8] = 1;
+    message[9] = 1;
+    message[10..16].copy_from_slice(&mac.to_be_bytes()[2..]);
+    let sum = checksum(source, ALL_ROUTERS, &message);
+    message[2..4].copy_from_slice(&sum.to_be_bytes());
+    message
+}
+
 /// RFC 2464: the interface identifier of a hardware address.
 pub fn eui64(mac: Mac) -> u64 {
     let high = (mac >> 24) & 0xff_ffff;
@@ -792,13 +804,7 @@ impl Model {
             mark!("calls.solicit-no-room");
             return Sent::NoRoom;
         }
-        let mut message = [0; 16];
-        message[0] = 133;
-        message[8] = 1;
-        message[9] = 1;
-        message[10..16].copy_from_slice(&mac.to_be_bytes()[2..]);
-        let sum = checksum(source.addr, ALL_ROUTERS, &message);
-        message[2..4].copy_from_slice(&sum.to_be_bytes());
+        let message = solicitation(source.addr, *mac);
         Sent::Solicit(message)
     }
 

@@ -19,6 +19,7 @@ use port::iface::addr::{AddrAt, AddrOrigin, IfaceAddrs};
 use port::iface::route::{Expiry, RouteAt, RouteOrigin, Routes};
 use port::learned::{Phase, PrefixAt, RouterAt, Slaac};
 use port::neighbor::{Answer, Got, Neighbor, NeighborCache, NeighborState, Outcome, State};
+use port::ndisc::ndiscoption::{self, Checked, NdiscOption, PrefixInformation, Written};
 use port::sweep::ProbeEvent;
 use port::time::{Clock, Deadline, Instant};
 use port::wire::error::Refusal;
@@ -27,7 +28,7 @@ use port::wire::ipv6::{Ipv6Addr, Ipv6Cidr};
 
 /// What the port has so far.
 const CALLS: &[&str] = &[
-    "new", "lookup", "start", "fill", "insert", "get", "remove", "clear", "sweep", "cache", "address", "route", "restart", "on",
+    "new", "option", "write", "solicit", "lookup", "start", "fill", "insert", "get", "remove", "clear", "sweep", "cache", "address", "route", "restart", "on",
     "slaac", "prefixes", "routers", "addresses", "routes",
 ];
 
@@ -124,11 +125,66 @@ impl Side for Port {
         *self = Port::default();
     }
 
-    fn option(&mut self, _bytes: &[u8]) -> Option<(Held, usize, usize)> {
-        unimplemented!()
+    fn option(&mut self, bytes: &[u8]) -> Option<(Held, usize, usize)> {
+        let data = ndiscoption::data(bytes);
+        match ndiscoption::check_option(bytes) {
+            Checked::Refused(why) => {
+                assert!(number(why) == 1 && data.is_empty());
+                None
+            }
+            Checked::Well { option, units } => {
+                // The data is a stretch of the bytes themselves.
+                let from = data.as_ptr() as usize - bytes.as_ptr() as usize;
+                assert!(from + data.len() == 8 * units);
+                let held = match option {
+                    NdiscOption::SourceLinkLayerAddr(m) => Held::LinkLayer(1, m.octets()),
+                    NdiscOption::TargetLinkLayerAddr(m) => Held::LinkLayer(2, m.octets()),
+                    NdiscOption::PrefixInformation(p) => {
+                        let flags = u8::from(p.on_link) << 7 | u8::from(p.addrconf) << 6;
+                        let ms = |secs: u32| port::time::Duration::from_secs(secs).0;
+                        Held::Prefix(
+                            p.prefix_len,
+                            flags,
+                            ms(p.valid_lifetime),
+                            ms(p.preferred_lifetime),
+                            p.prefix.octets(),
+                        )
+                    }
+                    NdiscOption::RedirectedHeader => Held::Other(4),
+                    NdiscOption::Mtu(mtu) => Held::Mtu(mtu),
+                    NdiscOption::Unknown(t) => Held::Other(t),
+                };
+                Some((held, from, from + data.len()))
+            }
+        }
     }
-    fn write(&mut self, _message: &mut [u8], _place: usize, _option: &ToWrite) -> Result<(), Refused> {
-        unimplemented!()
+    fn write(&mut self, message: &mut [u8], place: usize, option: &ToWrite) -> Result<(), Refused> {
+        let written = match *option {
+            ToWrite::LinkLayer(1, m) => ndiscoption::write_source_link_layer_addr(message, place, hw(m)),
+            ToWrite::LinkLayer(_, m) => ndiscoption::write_target_link_layer_addr(message, place, hw(m)),
+            ToWrite::Prefix(prefix_len, flags, valid_lifetime, preferred_lifetime, prefix) => {
+                let p = PrefixInformation {
+                    prefix_len,
+                    on_link: flags & 0x80 != 0,
+                    addrconf: flags & 0x40 != 0,
+                    valid_lifetime,
+                    preferred_lifetime,
+                    prefix: ip(prefix),
+                };
+                ndiscoption::write_prefix_information(message, place, p)
+            }
+            ToWrite::Mtu(mtu) => ndiscoption::write_mtu(message, place, mtu),
+        };
+        match written {
+            Written::Refused(why) => Err(number(why)),
+            Written::Done => Ok(()),
+        }
+    }
+    fn solicit(&mut self, buffer: &mut [u8], source: Addr, mac: Mac) -> bool {
+        match port::ndisc::ndisc::write_solicit(buffer, ip(source), hw(mac)) {
+            port::ndisc::ndisc::Solicited::NoRoom => false,
+            port::ndisc::ndisc::Solicited::Written => true,
+        }
     }
 
     fn lookup(&mut self, iface: u8, addr: Addr) -> Result<Lookup, Refused> {
