@@ -5,9 +5,9 @@ use lib.Dec.{ltb}
 use lib.ListN.{length, drop-of-length-le}
 use mathlib.Core.Bool.{false}
 use mathlib.Core.List.{List, append-nil}
-use mathlib.Core.Path.{_≡_, sym, ap, _∙_}
+use mathlib.Core.Path.{_≡_, refl, sym, ap, _∙_}
 use native.Mathlib.Omega.{arith}
-use Rattle.text.specs.Addresses.{addressOf, hardwareOf, messageBytes, MessageRead}
+use Rattle.text.specs.Addresses.{addressOf, hardwareOf, messageOf, MessageRead}
 use Rattle.text.specs.Hex.{unhexed, front, Unhexed}
 use Rattle.text.specs.declared.address.Address.the-variants.{Value as Addr}
 use Rattle.text.specs.declared.address.Hardware.the-variants.{Value as Hw}
@@ -37,37 +37,37 @@ hardware-good s sp zs n a h w m z e =
 
 -- ---- messages
 
-pub message-long : (s out : List ℕ) → length out < length s / 2 → MessageRead s out NoMessage out
-message-long s out h = record { is = simp (lt-ltb (length out) (length s / 2) h); bytes = simp (lt-ltb (length out) (length s / 2) h) }
+module _ (s out : List ℕ) where
+  pub message-long : length out < length s / 2 → MessageRead s out NoMessage out
+  unfolding messageOf
+  message-long h = record { is = simp (lt-ltb (length out) (length s / 2) h); bytes = refl }
 
-module _ (s out out' : List ℕ) (n : ℕ) (h : length s / 2 ≤ length out) (w : Unhexed s out n out') where
-  room : ltb (length out) (length s / 2) ≡ false
-  room = le-ltb (length out) (length s / 2) h
+  module _ (n : ℕ) (h : length s / 2 ≤ length out) (e : n ≡ length (unhexed s)) where
+    pub message-none : n ≡ 0 → MessageRead s out NoMessage out
+    unfolding messageOf
+    message-none z =
+        record { is = simp (le-ltb (length out) (length s / 2) h, eq-eqb (length (unhexed s)) 0 (sym e ∙ z)); bytes = refl }
 
-  text : out' ≡ front (messageBytes (length out) s) out
-  text = rw room (w .is)
+    pub message-odd : (n ≡ 0 → ⊥) → (2 * n ≡ length s → ⊥) → MessageRead s out NoMessage out
+    unfolding messageOf
+    message-odd z o =
+        record {
+          is = simp (
+            le-ltb (length out) (length s / 2) h,
+            ne-eqb (length (unhexed s)) 0 (λ q. z (e ∙ q)),
+            ne-eqb (2 * length (unhexed s)) (length s) (λ q. o (omega (arith, e, q))),
+          );
+          bytes = refl;
+        }
 
-  pub message-none : n ≡ 0 → MessageRead s out NoMessage out'
-  message-none z = record { is = simp (room, eq-eqb (length (unhexed s)) 0 (sym (w .count) ∙ z)); bytes = text }
-
-  pub message-odd : (n ≡ 0 → ⊥) → (2 * n ≡ length s → ⊥) → MessageRead s out NoMessage out'
-  message-odd z o =
-      record {
-        is = simp (
-          room,
-          ne-eqb (length (unhexed s)) 0 (λ q. z (w .count ∙ q)),
-          ne-eqb (2 * length (unhexed s)) (length s) (λ q. o (omega (arith, w .count, q))),
-        );
-        bytes = text;
-      }
-
-  pub message-good : (n ≡ 0 → ⊥) → 2 * n ≡ length s → MessageRead s out (Bytes n) out'
-  message-good z o =
-      record {
-        is = simp (
-          room,
-          ne-eqb (length (unhexed s)) 0 (λ q. z (w .count ∙ q)),
-          eq-eqb (2 * length (unhexed s)) (length s) (omega (arith, w .count)),
-        ) (ap Bytes (w .count));
-        bytes = text;
-      }
+    pub message-good : (n ≡ 0 → ⊥) → 2 * n ≡ length s → (k : ℕ) (out' : List ℕ) → Unhexed s out k out' → MessageRead s out (Bytes k) out'
+    unfolding messageOf
+    message-good z o k out' w =
+        record {
+          is = simp (
+            le-ltb (length out) (length s / 2) h,
+            ne-eqb (length (unhexed s)) 0 (λ q. z (e ∙ q)),
+            eq-eqb (2 * length (unhexed s)) (length s) (omega (arith, e)),
+          ) (ap Bytes (w .count));
+          bytes = w .is;
+        }

@@ -77,6 +77,22 @@ pub stop-end : (s out₀ out : List ℕ) (n : ℕ) → Unhexing s out₀ out n �
 stop-end s out₀ out n inv k m e =
     stop s out₀ out n inv k m (short (drop (2 * n) s) (rw length-drop (omega arith)))
 
+-- ---- counting
+
+pub count-step : (s : List ℕ) (n a b : ℕ) → 2 * n + 1 < length s → a ≡ nibbleOf (getD s (2 * n) 0) → b ≡ nibbleOf (getD s (2 * n + 1) 0) → a ≤ 15 → b ≤ 15
+    → n + length (unhexed (drop (2 * n) s)) ≡ (n + 1) + length (unhexed (drop (2 * (n + 1)) s))
+count-step s n a b h p q ha hb = simp (unhexed-pair s n h, ← p, ← q, le-leb a 15 ha, le-leb b 15 hb) (omega arith)
+
+pub count-first : (s : List ℕ) (n a : ℕ) → 2 * n + 1 < length s → a ≡ nibbleOf (getD s (2 * n) 0) → 15 < a → length (unhexed (drop (2 * n) s)) ≡ 0
+count-first s n a h p ha = simp (unhexed-pair s n h, ← p, lt-leb a 15 ha)
+
+pub count-second : (s : List ℕ) (n a b : ℕ) → 2 * n + 1 < length s → a ≡ nibbleOf (getD s (2 * n) 0) → b ≡ nibbleOf (getD s (2 * n + 1) 0) → a ≤ 15 → 15 < b
+    → length (unhexed (drop (2 * n) s)) ≡ 0
+count-second s n a b h p q ha hb = simp (unhexed-pair s n h, ← p, ← q, le-leb a 15 ha, lt-leb b 15 hb)
+
+pub count-end : (s : List ℕ) (n : ℕ) → length s ≤ 2 * n + 1 → length (unhexed (drop (2 * n) s)) ≡ 0
+count-end s n e = rw (short (drop (2 * n) s) (rw length-drop (omega arith))) refl
+
 -- ---- writing
 
 hexed-append : (a b : List ℕ) → hexed (a ++ b) ≡ hexed a ++ hexed b

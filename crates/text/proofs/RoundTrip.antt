@@ -52,6 +52,7 @@ hardware-reads-back a h l =
 -- ---- messages
 
 pub message-reads-back : (room : ℕ) (bs : List ℕ) → AllBytes bs → 0 < length bs → length bs ≤ room → messageOf room (hexed bs) ≡ Bytes (length bs)
+unfolding messageOf
 message-reads-back room bs w h k =
     let e = read-back bs w in
     let n = hexed-length bs in
@@ -179,15 +180,13 @@ pub spaced-hardware : (s : List ℕ) → (Clear s → ⊥) → hardwareOf s ≡ 
 unfolding hardwareOf
 spaced-hardware s n = hardware-by (length s) (length (unhexed s)) _ (eqb (length s) 12) refl (spaced-hex s n)
 
-message-zero : (k n : ℕ) (t : Bool) → (2 * k ≡ n → ⊥) → cond t NoMessage (cond (eqb (2 * k) n) (Bytes k) NoMessage) ≡ NoMessage
-message-zero k n true h = refl
-message-zero k n false h = rw (ne-eqb (2 * k) n h) refl
-
-message-by : (s : List ℕ) (t : Bool) → 2 * length (unhexed s) < length s
-    → cond (eqb (length (cond t [] (unhexed s))) 0) NoMessage
-    (cond (eqb (2 * length (cond t [] (unhexed s))) (length s)) (Bytes (length (cond t [] (unhexed s)))) NoMessage) ≡ NoMessage
-message-by s true h = refl
-message-by s false h = message-zero (length (unhexed s)) (length s) (eqb (length (unhexed s)) 0) (λ q. omega arith)
+message-zero : (k n : ℕ) (t u : Bool) → (2 * k ≡ n → ⊥) → cond u NoMessage (cond t NoMessage (cond (eqb (2 * k) n) (Bytes k) NoMessage)) ≡ NoMessage
+message-zero k n t true h = refl
+message-zero k n true false h = refl
+message-zero k n false false h = rw (ne-eqb (2 * k) n h) refl
 
 pub spaced-message : (room : ℕ) (s : List ℕ) → (Clear s → ⊥) → messageOf room s ≡ NoMessage
-spaced-message room s n = message-by s (ltb room (length s / 2)) (spaced-hex s n)
+unfolding messageOf
+spaced-message room s n =
+    message-zero (length (unhexed s)) (length s) (eqb (length (unhexed s)) 0) (ltb room (length s / 2))
+    (λ q. let h = spaced-hex s n in omega arith)

@@ -23,16 +23,17 @@ addressOf s = cond (eqb (length s) 32) (cond (eqb (length (unhexed s)) 16) (Valu
 unfoldable pub hardwareOf : List ℕ → Hardware
 hardwareOf s = cond (eqb (length s) 12) (cond (eqb (length (unhexed s)) 6) (HwValue (hardwareAt (unhexed s) 0)) HwBad) HwBad
 
--- what is read of a message where there is room for so many bytes: nothing of a longer one
-abbrev pub messageBytes : ℕ → List ℕ → List ℕ
-messageBytes room s = cond (ltb room (length s / 2)) [] (unhexed s)
-
--- an even number of digits, at least two
-abbrev pub messageOf : ℕ → List ℕ → Message
+-- an even number of digits, at least two, where there is room for so many bytes
+unfoldable pub messageOf : ℕ → List ℕ → Message
 messageOf room s =
-    cond (eqb (length (messageBytes room s)) 0) NoMessage
-    (cond (eqb (2 * length (messageBytes room s)) (length s)) (Bytes (length (messageBytes room s))) NoMessage)
+    cond (ltb room (length s / 2)) NoMessage
+    (cond (eqb (length (unhexed s)) 0) NoMessage (cond (eqb (2 * length (unhexed s)) (length s)) (Bytes (length (unhexed s))) NoMessage))
+
+-- the bytes that are read: those of a message
+abbrev pub bytesOf : Message → List ℕ → List ℕ
+bytesOf (Bytes n) s = unhexed s
+bytesOf NoMessage s = []
 
 pub record MessageRead (s out : List ℕ) (r : Message) (out' : List ℕ) : Type 0 where
   pub is : r ≡ messageOf (length out) s
-  pub bytes : out' ≡ front (messageBytes (length out) s) out
+  pub bytes : out' ≡ front (bytesOf r s) out

@@ -1,6 +1,7 @@
 // Addresses and messages in hexadecimal.
 ghost use mathlib.Core.Path.{_≡_};
 ghost use Rattle.text.specs.Addresses.{addressOf, hardwareOf, MessageRead};
+use crate::hex::pairs;
 use crate::hex::unhex;
 use wire::ethernet::HardwareAddress;
 use wire::ipv6::Ipv6Addr;
@@ -49,19 +50,20 @@ pub fn read_hardware(s: &[u8]) -> Hardware
     Hardware::Value(HardwareAddress::from_octets(&bytes))
 }
 
-// A message of any length for which out has room, read into the front of out.
+// A message for which out has room, read into the front of out. Of what is no message nothing is read.
 pub fn read_message(s: &[u8], out: &mut [u8]) -> Message
     ensures { λ r. ⌜ MessageRead (now (s .entry)) (now (out .entry)) r (now (out .exit)) ⌝ }
 {
     if s.len() / 2 > out.len() {
         return Message::Bad;
     }
-    let n = unhex(s, out);
+    let n = pairs(s);
     if n == 0 {
         return Message::Bad;
     }
     if 2 * n != s.len() {
         return Message::Bad;
     }
-    Message::Bytes(n)
+    let k = unhex(s, out);
+    Message::Bytes(k)
 }

@@ -2,7 +2,7 @@
 ghost use mathlib.Core.Path.{_≡_};
 ghost use Prim.Native.Nat.{_≤_, _*_, _+_, _<_, _/_, _%_};
 ghost use lib.ListN.{length};
-ghost use Rattle.text.specs.Hex.{nibbleOf, Unhexed, glyphOf};
+ghost use Rattle.text.specs.Hex.{nibbleOf, unhexed, Unhexed, glyphOf};
 
 // The value of a digit of either case, 16 for any other byte.
 fn nibble(b: u8) -> u8
@@ -27,6 +27,26 @@ fn nibble(b: u8) -> u8
         return b - b'a' + 10;
     }
     16
+}
+
+// How many pairs of digits there are, up to the end of s or the first pair that is none.
+pub fn pairs(s: &[u8]) -> usize
+    ensures { λ r. ⌜ (r ≡ length (unhexed (now (s .entry)))) × (2 * r ≤ length (now (s .entry))) ⌝ }
+{
+    let most = s.len() / 2;
+    let mut n = 0;
+    while n < most {
+        let a = nibble(s[2 * n]);
+        let b = nibble(s[2 * n + 1]);
+        if a > 15 {
+            return n;
+        }
+        if b > 15 {
+            return n;
+        }
+        n += 1;
+    }
+    n
 }
 
 // Reads pairs of digits into out, up to the end of s or the first pair that is none, and answers how many.
