@@ -1,12 +1,7 @@
 use borrow.Author.Needs.{needs}
-use native.Mathlib.Omega.{arith}
 use Rattle.text.proofs.AddressLaws.{message-long, message-none, message-odd, message-good}
 use Rattle.text.proofs.address.read_message.Statement.{statement}
 use Rattle.text.proofs.address.read_message.Tie as tie
-use Rattle.text.proofs.address.read_message.Reads as reads
-use Rattle.text.proofs.address.read_message.Lts as lts
-use Rattle.text.proofs.hex.pairs.Reads as pairs-reads
-use Rattle.text.proofs.hex.unhex.Reads as unhex-reads
 
 returns : tie.Need-returns
 returns c = message-long (c .before .before .before .args .s .now) (c .before .before .before .args .out .now) (c .if1 .taken)

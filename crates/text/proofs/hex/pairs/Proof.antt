@@ -1,15 +1,12 @@
 use Prim.Native.Nat.{_≤_, _-_, _+_, _*_}
-use mathlib.Core.Path.{_≡_, _∙_}
-use native.Mathlib.Omega.{arith}
 use borrow.Author.Needs.{needs}
 use lib.ListN.{length, drop}
-use Rattle.text.specs.Hex.{unhexed}
+use mathlib.Core.Path.{_≡_, _∙_}
+use native.Mathlib.Omega.{arith}
 use Rattle.text.proofs.HexLaws.{count-step, count-first, count-second, count-end}
+use Rattle.text.specs.Hex.{unhexed}
 use Rattle.text.proofs.hex.pairs.Statement.{statement}
 use Rattle.text.proofs.hex.pairs.Tie as tie
-use Rattle.text.proofs.hex.pairs.Reads as reads
-use Rattle.text.proofs.hex.pairs.Lts as lts
-use Rattle.text.proofs.hex.nibble.Reads as nibble-reads
 
 abbrev Inv-loop : tie.InvT-loop
 Inv-loop s most n₀ n = (n ≤ most) × (length (unhexed s) ≡ n + length (unhexed (drop (2 * n) s)))
