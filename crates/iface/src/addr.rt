@@ -77,7 +77,7 @@ impl AddrOrigin {
 
 impl IfaceAddr {
     // An address assigned by the application.
-    pub fn manual(cidr: Ipv6Cidr) -> IfaceAddr
+    fn manual(cidr: Ipv6Cidr) -> IfaceAddr
         ensures { λ r. ⌜ r ≡ manualAddr cidr ⌝ }
     {
         IfaceAddr {
@@ -89,6 +89,7 @@ impl IfaceAddr {
 }
 
 impl IfaceAddrs {
+    // A table with no addresses.
     pub fn new() -> IfaceAddrs
         ensures { λ r. ⌜ r ≡ emptyAddrs ⌝ }
     {

@@ -70,7 +70,7 @@ impl RouteOrigin {
 
 impl Route {
     // A route added by the application, with no expiry.
-    pub fn manual(iface: u8, cidr: Ipv6Cidr, via_router: Ipv6Addr) -> Route
+    fn manual(iface: u8, cidr: Ipv6Cidr, via_router: Ipv6Addr) -> Route
         ensures { λ r. ⌜ r ≡ manualRoute iface cidr «via_router» ⌝ }
     {
         Route {
@@ -94,7 +94,7 @@ impl Route {
         i & p & r
     }
 
-    // Whether it is the application's route by that router.
+    // Whether it is a route that the application added, out of the interface to the prefix via the router.
     fn assigned(self, iface: u8, cidr: Ipv6Cidr, via_router: Ipv6Addr) -> bool
         ensures { λ r. ⌜ r ≡ isManualRoute iface cidr «via_router» self ⌝ }
     {
@@ -126,6 +126,7 @@ impl Route {
 }
 
 impl Routes {
+    // A table with no routes.
     pub fn new() -> Routes
         ensures { λ r. ⌜ r ≡ emptyRoutes ⌝ }
     {
@@ -172,8 +173,8 @@ impl Routes {
         }
     }
 
-    // A valid router has its default route: one that SLAAC installed on the interface takes the new time. The application's
-    // default route by the same router does not stand in its way.
+    // SLAAC's own calls, which take an interface that SLAAC has tested. A valid router has its default route: one that SLAAC
+    // installed on the interface takes the new time. The application's by the same router does not stand in its way.
     pub fn put_route(self, iface: u8, via_router: Ipv6Addr, expires_at: Instant) -> Routes
         ensures { λ r. ⌜ r ≡ withRoutes self (putRoute iface «via_router» «expires_at» (routesOf self)) ⌝ }
     {
