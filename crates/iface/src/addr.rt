@@ -111,9 +111,9 @@ impl IfaceAddrs {
                 outcome: Outcome::Refused(why),
             };
         }
-        let k = count_of(self.len, 8);
+        let len = count_of(self.len, 8);
         let mut i = 0;
-        while i < k {
+        while i < len {
             let e = self.slots[i];
             let c = e.cidr;
             if c.same(cidr) {
@@ -124,11 +124,11 @@ impl IfaceAddrs {
             }
             i += 1;
         }
-        if k < 8 {
+        if len < 8 {
             let mut t = self;
             let new = IfaceAddr::manual(cidr);
-            t.slots[k] = new;
-            t.len = k + 1;
+            t.slots[len] = new;
+            t.len = len + 1;
             return Added {
                 addrs: t,
                 outcome: Outcome::Done,
@@ -148,12 +148,12 @@ impl IfaceAddrs {
         let k = count_of(self.len, 8);
         let mut i = 0;
         while i < k {
-            let e = self.slots[i];
-            let c = e.cidr;
+            let existing = self.slots[i];
+            let c = existing.cidr;
             if c.same(cidr) {
                 let mut t = self;
                 t.len = k;
-                let o = e.origin;
+                let o = existing.origin;
                 if o.is_slaac() {
                     t.slots[i] = IfaceAddr {
                         cidr: c,
@@ -187,11 +187,11 @@ impl IfaceAddrs {
         let k = count_of(self.len, 8);
         let mut i = 0;
         while i < k {
-            let e = self.slots[i];
-            let c = e.cidr;
+            let old = self.slots[i];
+            let c = old.cidr;
             if c.same(cidr) {
                 let mut t = self;
-                let o = e.origin;
+                let o = old.origin;
                 if o.is_slaac() {
                     let mut hole = i;
                     let mut next = i + 1;

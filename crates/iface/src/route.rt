@@ -145,9 +145,9 @@ impl Routes {
                 outcome: Outcome::Refused(why),
             };
         }
-        let k = count_of(self.len, 8);
+        let len = count_of(self.len, 8);
         let mut i = 0;
-        while i < k {
+        while i < len {
             let e = self.slots[i];
             if e.assigned(iface, cidr, via_router) {
                 return AddedRoute {
@@ -157,11 +157,11 @@ impl Routes {
             }
             i += 1;
         }
-        if k < 8 {
+        if len < 8 {
             let mut t = self;
             let new = Route::manual(iface, cidr, via_router);
-            t.slots[k] = new;
-            t.len = k + 1;
+            t.slots[len] = new;
+            t.len = len + 1;
             return AddedRoute {
                 routes: t,
                 outcome: Outcome::Done,
@@ -181,15 +181,15 @@ impl Routes {
         let k = count_of(self.len, 8);
         let mut i = 0;
         while i < k {
-            let e = self.slots[i];
-            if e.installed(iface, via_router) {
-                let c = e.cidr;
-                let v = e.via_router;
+            let existing = self.slots[i];
+            if existing.installed(iface, via_router) {
+                let c = existing.cidr;
+                let v = existing.via_router;
                 let mut t = self;
                 t.slots[i] = Route {
                     cidr: c,
                     via_router: v,
-                    iface: e.iface,
+                    iface: existing.iface,
                     origin: RouteOrigin::Slaac,
                     expires_at: Expiry::At(expires_at),
                 };
@@ -221,8 +221,8 @@ impl Routes {
         let k = count_of(self.len, 8);
         let mut i = 0;
         while i < k {
-            let e = self.slots[i];
-            if e.installed(iface, via_router) {
+            let old = self.slots[i];
+            if old.installed(iface, via_router) {
                 let mut t = self;
                 let mut hole = i;
                 let mut next = i + 1;

@@ -9,10 +9,10 @@ use Rattle.iface.proofs.addr.IfaceAddrs.add_ip_addr.Statement.{statemen
 use Rattle.iface.proofs.addr.IfaceAddrs.add_ip_addr.Tie as tie
 
 abbrev Inv-loop : tie.InvT-loop
-Inv-loop iface cidr self k i₀ i = Seek self cidr k i
+Inv-loop iface cidr self len i₀ i = Seek self cidr len i
 
 abbrev μ-loop : tie.MeasureT-loop
-μ-loop iface cidr self k i₀ i = k - i
+μ-loop iface cidr self len i₀ i = len - i
 
 check-prefix-requires : tie.Need-check-prefix-requires Inv-loop μ-loop
 check-prefix-requires c κs = search needs

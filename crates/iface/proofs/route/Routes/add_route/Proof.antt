@@ -9,10 +9,10 @@ use Rattle.iface.proofs.route.Routes.add_route.Statement.{statement}
 use Rattle.iface.proofs.route.Routes.add_route.Tie as tie
 
 abbrev Inv-loop : tie.InvT-loop
-Inv-loop iface cidr via-router self k i₀ i = AddSeek self iface cidr via-router k i
+Inv-loop iface cidr via-router self len i₀ i = AddSeek self iface cidr via-router len i
 
 abbrev μ-loop : tie.MeasureT-loop
-μ-loop iface cidr via-router self k i₀ i = k - i
+μ-loop iface cidr via-router self len i₀ i = len - i
 
 check-prefix-requires : tie.Need-check-prefix-requires Inv-loop μ-loop
 check-prefix-requires c κs = search needs

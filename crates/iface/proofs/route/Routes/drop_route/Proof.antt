@@ -28,11 +28,11 @@ loop-holds c = let t = c .before .args .t1 in
     let full : length (t .slots) ≡ 8 = search (needs, mapped) in
     finding 8 _ _ _ (t .slots) (t .len) _ full (c .count-of .ensures)
 
-mul-e : tie.Need-mul-e Inv-loop2 μ-loop2 Inv-loop μ-loop
-mul-e c = search needs
+mul-old : tie.Need-mul-old Inv-loop2 μ-loop2 Inv-loop μ-loop
+mul-old c = search needs
 
-element-copy-out-e : tie.Need-element-copy-out-e Inv-loop2 μ-loop2 Inv-loop μ-loop
-element-copy-out-e c = search needs
+element-copy-out-old : tie.Need-element-copy-out-old Inv-loop2 μ-loop2 Inv-loop μ-loop
+element-copy-out-old c = search needs
 
 installed-requires : tie.Need-installed-requires Inv-loop2 μ-loop2 Inv-loop μ-loop
 installed-requires c κs = search needs
@@ -91,8 +91,8 @@ drop-route-spec =
     μ-loop
     count-of-requires
     loop-holds
-    mul-e
-    element-copy-out-e
+    mul-old
+    element-copy-out-old
     installed-requires
     add-next
     loop2-holds
