@@ -9,7 +9,7 @@ use mathlib.Core.List.{List, [], _∷_}
 use mathlib.Core.Path.{_≡_, refl, sym, ap, _∙_}
 use native.Mathlib.Omega.{arith}
 use Rattle.ndisc.proofs.Malformed.{has, refused-means, well-means}
-use Rattle.ndisc.specs.Answers.{walkNumber, nextNumber}
+use Rattle.ndisc.specs.Answers.{walkNumber, walkPlaces, nextNumber, nextOptions}
 use Rattle.ndisc.specs.OptionWalk.{past, Options, none, one, nextOf, walk, optionsFrom, walked, optionsOf, stopped, Says, Walks, Steps}
 use Rattle.ndisc.specs.Rfc4861Options.{malformed, optionOf, checkedOf}
 use Rattle.ndisc.specs.declared.ndiscoption.Checked.the-variants.{Refused, Well}
@@ -57,35 +57,6 @@ check-well msg at o n e g =
 pub check-refused : (msg : List ℕ) (at : ℕ) (why : Refusal) {r : Checked} → r ≡ checkedOf (take (length msg - at) (drop at msg))
     → r ≡ Refused why → malformed (drop at msg) ≡ true
 check-refused msg at why e g = refused-means (drop at msg) why (ap checkedOf (sym (rest msg at)) ∙ (sym e ∙ g))
-
--- What `next_option` answers
-
-next-number : (t m : Bool) (o : NdiscOption) (p : ℕ) → nextNumber (cond t (cond m Malformed (Option o p)) End) ≡ cond t (cond m 1 0) 0
-next-number true true o p = refl
-next-number true false o p = refl
-next-number false m o p = refl
-
-steps : (msg : List ℕ) (at : ℕ) {r : Next} → nextOf msg at ≡ r → Steps msg at r
-steps msg at e =
-    record {
-      is = sym e;
-      number = ap nextNumber (sym e) ∙ next-number (ltb at (length msg)) (malformed (drop at msg)) (optionOf (drop at msg)) (past msg at);
-    }
-
-pub next-end : (msg : List ℕ) (at : ℕ) → length msg ≤ at → Steps msg at End
-next-end msg at h = steps msg at (simp (le-ltb at (length msg) h))
-
-pub next-malformed : (msg : List ℕ) (at : ℕ) → at < length msg → malformed (drop at msg) ≡ true → Steps msg at Malformed
-next-malformed msg at h m = steps msg at (simp (lt-ltb at (length msg) h, m))
-
-next-by : (t m : Bool) → t ≡ true → m ≡ false → (o : NdiscOption) (p : ℕ) → cond t (cond m Malformed (Option o p)) End ≡ Option o p
-next-by t m e f o p = simp (e, f)
-
-pub next-step : (msg : List ℕ) (at : ℕ) (o : NdiscOption) (n : ℕ) → Stepped msg at o n → Steps msg at (Option o (at + 8 * n))
-next-step msg at o n s =
-    steps msg at
-    (next-by (ltb at (length msg)) (malformed (drop at msg)) (lt-ltb at (length msg) (omega arith)) (s .well) (optionOf (drop at msg)) (past msg at)
-    ∙ (λ i. Option (s .option i) (s .to i)))
 
 -- More turns than enough change nothing
 
@@ -149,6 +120,38 @@ module _ (msg : List ℕ) (at : ℕ) where
   options-on w =
       let a = ahead msg at w in
       more msg at at (omega arith) .1 ∙ simp (lt-ltb at (length msg) (omega (arith, a .further, a .within)), w)
+
+-- What `next_option` answers
+
+next-number : (t m : Bool) (o : NdiscOption) (p : ℕ) → nextNumber (cond t (cond m Malformed (Option o p)) End) ≡ cond t (cond m 1 0) 0
+next-number true true o p = refl
+next-number true false o p = refl
+next-number false m o p = refl
+
+steps : (msg : List ℕ) (at : ℕ) {r : Next} → nextOf msg at ≡ r → nextOptions r ≡ take 1 (optionsOf msg at) → Steps msg at r
+steps msg at e o =
+    record {
+      is = sym e;
+      number = ap nextNumber (sym e) ∙ next-number (ltb at (length msg)) (malformed (drop at msg)) (optionOf (drop at msg)) (past msg at);
+      option = o;
+    }
+
+pub next-end : (msg : List ℕ) (at : ℕ) → length msg ≤ at → Steps msg at End
+next-end msg at h = steps msg at (simp (le-ltb at (length msg) h)) (ap (λ (l : List NdiscOption). take 1 l) (sym (options-end msg at h)))
+
+pub next-malformed : (msg : List ℕ) (at : ℕ) → at < length msg → malformed (drop at msg) ≡ true → Steps msg at Malformed
+next-malformed msg at h m =
+    steps msg at (simp (lt-ltb at (length msg) h, m)) (ap (λ (l : List NdiscOption). take 1 l) (sym (options-stop msg at m)))
+
+next-by : (t m : Bool) → t ≡ true → m ≡ false → (o : NdiscOption) (p : ℕ) → cond t (cond m Malformed (Option o p)) End ≡ Option o p
+next-by t m e f o p = simp (e, f)
+
+pub next-step : (msg : List ℕ) (at : ℕ) (o : NdiscOption) (n : ℕ) → Stepped msg at o n → Steps msg at (Option o (at + 8 * n))
+next-step msg at o n s =
+    steps msg at
+    (next-by (ltb at (length msg)) (malformed (drop at msg)) (lt-ltb at (length msg) (omega arith)) (s .well) (optionOf (drop at msg)) (past msg at)
+    ∙ (λ i. Option (s .option i) (s .to i)))
+    (sym (ap (λ (l : List NdiscOption). take 1 l) (options-on msg at (s .well)) ∙ (λ i. s .option i ∷ [])))
 
 pub walked-step : (msg : List ℕ) (at : ℕ) (o : NdiscOption) (n : ℕ) → Stepped msg at o n → walked msg at ≡ walked msg (at + 8 * n)
 walked-step msg at o n s = walked-on msg at (s .well) ∙ ap (λ (p : ℕ). walked msg p) (s .to)
@@ -220,12 +223,12 @@ options-malformed msg at to os (one {os = rest} w o) h m =
 
 -- .. and the other way round: what the walk answers says which options stand one after the other
 
-on-found : (msg : List ℕ) (at : ℕ) (w : Walk) → malformed (drop at msg) ≡ false → Says msg (past msg at) w → Says msg at w
+on-found : (msg : List ℕ) (at : ℕ) (w : Walk) → malformed (drop at msg) ≡ false → Says msg (past msg at) (walkPlaces w) → Says msg at (walkPlaces w)
 on-found msg at Clean w (to, h, o) = (to, h, rw (options-on msg at w) (one w o))
 on-found msg at (MalformedAt p) w (h, m, o) = (h, m, rw (options-on msg at w) (one w o))
 
 found-here : (msg : List ℕ) (at : ℕ) (t m : Bool) → ltb at (length msg) ≡ t → malformed (drop at msg) ≡ m
-    → (malformed (drop at msg) ≡ false → Says msg (past msg at) (walked msg (past msg at))) → Says msg at (walked msg at)
+    → (malformed (drop at msg) ≡ false → Says msg (past msg at) (walkPlaces (walked msg (past msg at)))) → Says msg at (walkPlaces (walked msg at))
 found-here msg at false m e f k =
     let h = ltb-false at (length msg) e in
     rw (walked-end msg at h) (at, h, rw (options-end msg at h) none)
@@ -234,7 +237,7 @@ found-here msg at true true e f k =
     rw (walked-stop msg at h f) (h, f, rw (options-stop msg at f) none)
 found-here msg at true false e f k = rw (walked-on msg at f) (on-found msg at (walked msg (past msg at)) f (k f))
 
-finds : (n : ℕ) (msg : List ℕ) (at : ℕ) → length msg ≤ n + at → Says msg at (walked msg at)
+finds : (n : ℕ) (msg : List ℕ) (at : ℕ) → length msg ≤ n + at → Says msg at (walkPlaces (walked msg at))
 finds zero msg at h =
     let k : length msg ≤ at = omega arith in
     rw (walked-end msg at k) (at, k, rw (options-end msg at k) none)
