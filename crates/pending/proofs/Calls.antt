@@ -1,0 +1,222 @@
+-- From what a call found in the queue to its promise. `s` are the slots, `n` the number of packets. Assumes nothing.
+use Prim.Native.Nat.{ℕ, _+_, _≤_, _<_, min}
+use borrow.Author.Tests.{lt-ltb, le-ltb}
+use lib.ListN.{length, take, drop, set, getD, length-append, drop-of-length-le}
+use lib.Seq.{take-append-seam, drop-append-seam, drop-set-lt}
+use mathlib.Core.Bool.{Bool, true, false, not}
+use mathlib.Core.List.{List, [], _∷_, _++_}
+use mathlib.Core.Path.{_≡_, refl, sym, ap, ap₂, _∙_}
+use native.Mathlib.Omega.{arith}
+use Rattle.neighbor.specs.CacheCalls.{key, ifaceCheck}
+use Rattle.neighbor.specs.NeighborRules.{Table, Key, isKey}
+use Rattle.neighbor.specs.declared.Outcome.the-variants.{Refused, Done}
+use Rattle.pending.specs.QueueCalls.{packets, withPackets, blank, zeros, pushNumber, pushBy, PushedTo, releaseBy, ReleasedTo, purgedOf, purgeBy, PurgedTo, atIndex}
+use Rattle.pending.specs.QueueRules.{Queue, keyOf, packet, hasKey, isFull, pushList, oldest, pushAnswer, gone, releaseList, handed, releaseAnswer, awaitsIn, orphaned, onIface, droppedHandles}
+use Rattle.pending.specs.declared.Handles.{Handles}
+use Rattle.pending.specs.declared.PendingPacket.{PendingPacket}
+use Rattle.pending.specs.declared.PendingQueue.{PendingQueue}
+use Rattle.pending.specs.declared.Purged.{Purged}
+use Rattle.pending.specs.declared.Push.the-variants.{Refused as Denied, Queued, Dropped}
+use Rattle.pending.specs.declared.Push.{Push}
+use Rattle.pending.specs.declared.Pushed.{Pushed}
+use Rattle.pending.specs.declared.Release.the-variants.{Refused as Rejected, Nothing, Handle}
+use Rattle.pending.specs.declared.Release.{Release}
+use Rattle.pending.specs.declared.Released.{Released}
+use Rattle.pending.specs.declared.Waiting.the-variants.{Nothing as NoPacket, Is}
+use Rattle.table.proofs.Laws.{Made, made, counted, entry-at, entries-from, at-end, one-more, agree-from, Collecting, collect, nothing, collected, Compacting, compacting, next, one-gone, one-kept, compacted, Moving, moved, Finding, found-goes, found-any, absent-any, Scanning, scan-found}
+use Rattle.table.specs.Table.{filled, firstOf, kept, without}
+use Rattle.wire.specs.Refusals.{checkNumber}
+use Rattle.wire.specs.declared.error.Check.the-variants.{Fine, Refused as Fails}
+use Rattle.wire.specs.declared.error.Check.{Check}
+use Rattle.wire.specs.declared.error.Refusal.{Refusal}
+use Rattle.wire.specs.declared.ipv6.Ipv6Addr.{Ipv6Addr}
+
+-- One packet more
+
+appended : {s₀ xs s : Queue} {k : ℕ} (y : PendingPacket) → Made s₀ xs s k → k < length s → Made s₀ (xs ++ (y ∷ [])) (set s k y) (k + 1)
+appended {s₀} {xs} {s} {k} y m h =
+    let front : take k s ≡ xs =
+    ap₂ (λ (i : ℕ) (l : Queue). take i l) (m .count) (m .slots) ∙ take-append-seam xs (drop (length xs) s₀) in
+    let back : drop k s ≡ drop k s₀ =
+    ap₂ (λ (i : ℕ) (l : Queue). drop i l) (m .count) (m .slots)
+    ∙ (drop-append-seam xs (drop (length xs) s₀) ∙ ap (λ (i : ℕ). drop i s₀) (sym (m .count))) in
+    let c : length (xs ++ (y ∷ [])) ≡ k + 1 = simp length-append (omega (arith, m .count)) in
+    record {
+      slots =
+          made s₀ (set s k y) (xs ++ (y ∷ [])) (k + 1) c (one-more s k y h ∙ ap (λ (l : Queue). l ++ (y ∷ [])) front)
+          (drop-set-lt (k + 1) s k y (omega arith) ∙ agree-from s s₀ k back);
+      count = sym c;
+    }
+
+-- Push
+
+module _ (q : PendingQueue) (iface : ℕ) (addr : Ipv6Addr) (handle : ℕ) where
+  p : PendingPacket
+  p = packet (key iface addr) handle
+
+  pub push-refused : (why : Refusal) → ifaceCheck iface ≡ Fails why → PushedTo q iface addr handle (record { queue = q; answer = Denied why })
+  push-refused why e =
+      record { is = ap (λ (x : Check). pushBy x q (packet (key iface addr) handle)) (sym e); number = ap checkNumber (sym e) }
+
+  pub pushed : (s : Queue) (n : ℕ) (a : Push) → ifaceCheck iface ≡ Fine → Made (q .slots) (pushList (packet (key iface addr) handle) (packets q)) s n
+      → a ≡ pushAnswer (packets q) → pushNumber a ≡ 0 → PushedTo q iface addr handle (record { queue = record { slots = s; len = n }; answer = a })
+  pushed s n a e m t z =
+      let made : _≡_ {A = Pushed} (record { queue = record { slots = s; len = n }; answer = a })
+      (record { queue = withPackets q (pushList (packet (key iface addr) handle) (packets q)); answer = pushAnswer (packets q) }) =
+      ap₂ (λ (x : PendingQueue) (y : Push). record { queue = x; answer = y })
+      (ap₂ (λ (x : Queue) (y : ℕ). record { slots = x; len = y }) (m .slots) (m .count)) t in
+      record { is = made ∙ ap (λ (x : Check). pushBy x q (packet (key iface addr) handle)) (sym e); number = z ∙ ap checkNumber (sym e) }
+
+module _ (y : PendingPacket) (s : Queue) (len n : ℕ) (full : length s ≡ 8) (e : n ≡ min len 8) where
+  count : n ≡ length (take len s)
+  count = counted s len 8 n full e
+
+  room : n < 8 → isFull (take len s) ≡ false
+  room h = let l : length (take len s) < 8 = omega (arith, count) in simp (lt-ltb (length (take len s)) 8 l)
+
+  no-room : 8 ≤ n → isFull (take len s) ≡ true
+  no-room h = let l : 8 ≤ length (take len s) = omega (arith, count) in simp (le-ltb (length (take len s)) 8 l)
+
+  pub push-room : n < 8 → Made s (pushList y (take len s)) (set s n y) (n + 1)
+  unfolding pushList
+  push-room h =
+      let w : take len s ++ (y ∷ []) ≡ pushList y (take len s) = simp (room h) in
+      let m : n + 1 ≡ length (take len s ++ (y ∷ [])) = simp length-append (omega (arith, count)) in
+      record { slots = at-end s len n count y (omega arith) ∙ ap (λ (l : Queue). filled s l) w; count = m ∙ ap length w }
+
+  pub push-queued : n < 8 → Queued ≡ pushAnswer (take len s)
+  unfolding pushAnswer
+  push-queued h = simp (room h)
+
+  pub push-full : (t : Queue) (hole after : ℕ) → Moving 8 s len 0 n t hole after → n ≤ after → 8 ≤ n → Made s (pushList y (take len s)) (set t hole y) n
+  unfolding pushList
+  push-full t hole after inv h l =
+      let k : hole + 1 ≡ n = omega (arith, inv .step, inv .top) in
+      let w : without (take len s) 0 ++ (y ∷ []) ≡ pushList y (take len s) = simp (no-room l) in
+      let m : Made s (without (take len s) 0 ++ (y ∷ [])) (set t hole y) (hole + 1) =
+      appended y (moved blank inv h) (omega (arith, inv .full, inv .step, inv .top, inv .most)) in
+      record { slots = m .slots ∙ ap (λ (u : Queue). filled s u) w; count = sym k ∙ (m .count ∙ ap length w) }
+
+  pub push-dropped : 8 ≤ n → Dropped (getD s 0 blank .handle) ≡ pushAnswer (take len s)
+  unfolding pushAnswer
+  push-dropped h =
+      let l : take len s ≡ getD s 0 blank ∷ drop 1 (take len s) = entries-from blank s len 0 (omega (arith, count)) in
+      let o : oldest (take len s) ≡ getD s 0 blank .handle = ap oldest l in
+      ap Dropped (sym o) ∙ simp (no-room h)
+
+-- Release
+
+pub record Seeking (k : Key) (s : Queue) (len n i : ℕ) : Type 0 where
+  pub finding : Finding 8 (hasKey k) gone [] s len n i
+  pub scanning : Scanning 8 (hasKey k) handed Nothing s len n i
+
+module _ (q : PendingQueue) (iface : ℕ) (addr : Ipv6Addr) where
+  pub release-refused : (why : Refusal) → ifaceCheck iface ≡ Fails why → ReleasedTo q iface addr (record { queue = q; answer = Rejected why })
+  release-refused why e = record { is = ap (λ (x : Check). releaseBy x q (key iface addr)) (sym e); number = ap checkNumber (sym e) }
+
+  module _ {n i : ℕ} (inv : Seeking (key iface addr) (q .slots) (q .len) n i) (e : ifaceCheck iface ≡ Fine) where
+    pub release-none : n ≤ i → ReleasedTo q iface addr (record { queue = q; answer = Nothing })
+    release-none h =
+        let w : record { queue = q; answer = Nothing } ≡ releaseBy Fine q (key iface addr) = simp (absent-any blank (inv .finding) h) in
+        record { is = w ∙ ap (λ (x : Check). releaseBy x q (key iface addr)) (sym e); number = ap checkNumber (sym e) }
+
+    pub released : (t : Queue) (hole : ℕ) → i < n → hasKey (key iface addr) (getD (q .slots) i blank) ≡ true
+        → Made (q .slots) (without (packets q) i) t hole
+        → ReleasedTo q iface addr (record { queue = record { slots = t; len = hole }; answer = Handle (getD (q .slots) i blank .handle) })
+    unfolding releaseList releaseAnswer
+    released t hole h g m =
+        let l : without (packets q) i ≡ releaseList (key iface addr) (packets q) = found-goes blank (inv .finding) h g refl in
+        let a : Handle (getD (q .slots) i blank .handle) ≡ releaseAnswer (key iface addr) (packets q) = scan-found blank (inv .scanning) h g in
+        let made : _≡_ {A = Released} (record { queue = record { slots = t; len = hole }; answer = Handle (getD (q .slots) i blank .handle) })
+        (record { queue = withPackets q (releaseList (key iface addr) (packets q)); answer = releaseAnswer (key iface addr) (packets q) }) =
+        ap₂ (λ (x : PendingQueue) (y : Release). record { queue = x; answer = y })
+        (ap₂ (λ (x : Queue) (y : ℕ). record { slots = x; len = y }) (m .slots ∙ ap (λ (u : Queue). filled (q .slots) u) l) (m .count ∙ ap length l)) a in
+        let w : record { queue = withPackets q (releaseList (key iface addr) (packets q)); answer = releaseAnswer (key iface addr) (packets q) }
+        ≡ releaseBy Fine q (key iface addr) = simp (found-any blank (inv .finding) h g) in
+        record { is = made ∙ (w ∙ ap (λ (x : Check). releaseBy x q (key iface addr)) (sym e)); number = ap checkNumber (sym e) }
+
+-- Purges: the loop keeps what stays, and collects the handles of what goes
+
+pub record Purging (goes : PendingPacket → Bool) (s₀ : Queue) (len n : ℕ) (s : Queue) (w i : ℕ) (b : List ℕ) (m : ℕ) : Type 0 where
+  pub few : m ≤ i
+  pub keeping : Compacting 8 goes s₀ len n s w i
+  pub out : Collecting (droppedHandles goes (take len s₀)) zeros b m (droppedHandles goes (drop i (take len s₀)))
+
+pub purging : (goes : PendingPacket → Bool) (s : Queue) (len n : ℕ) → length s ≡ 8 → n ≡ min len 8 → Purging goes s len n s 0 0 zeros 0
+purging goes s len n full e =
+    record { few = omega arith; keeping = compacting 8 goes s len n full e; out = record { so-far = refl; rest = refl; long = refl } }
+
+module _ {goes : PendingPacket → Bool} {s₀ : Queue} {len n : ℕ} {s : Queue} {w i : ℕ} {b : List ℕ} {m : ℕ}
+    (inv : Purging goes s₀ len n s w i b m) where
+  module _ (h : i < n) where
+    here : drop i (take len s₀) ≡ getD s i blank ∷ drop (i + 1) (take len s₀)
+    here = next blank goes s₀ len s w i (inv .keeping .keeping) (omega (arith, inv .keeping .count))
+
+    pub one-goes : goes (getD s i blank) ≡ true → Purging goes s₀ len n s w (i + 1) (set b m (getD s i blank .handle)) (m + 1)
+    unfolding droppedHandles
+    one-goes g =
+        let t : droppedHandles goes (drop i (take len s₀)) ≡ getD s i blank .handle ∷ droppedHandles goes (drop (i + 1) (take len s₀)) = simp (here, g) in
+        record {
+          few = omega (arith, inv .few);
+          keeping = one-gone blank (inv .keeping) h g;
+          out = collect _ _ _ _ _ (inv .out) (getD s i blank .handle) _ t (omega (arith, inv .few, inv .keeping .most));
+        }
+
+    pub one-stays : goes (getD s i blank) ≡ false → Purging goes s₀ len n (set s w (getD s i blank)) (w + 1) (i + 1) b m
+    unfolding droppedHandles
+    one-stays g =
+        let t : droppedHandles goes (drop i (take len s₀)) ≡ droppedHandles goes (drop (i + 1) (take len s₀)) = simp (here, g) in
+        record {
+          few = omega (arith, inv .few);
+          keeping = one-kept blank (inv .keeping) h g;
+          out = nothing _ _ _ _ _ (inv .out) _ t;
+        }
+
+pub purged : (q : PendingQueue) (goes : PendingPacket → Bool) {n : ℕ} {s : Queue} {w i : ℕ} {b : List ℕ} {m : ℕ}
+    → Purging goes (q .slots) (q .len) n s w i b m → n ≤ i
+    → _≡_ {A = Purged} (record { queue = record { slots = s; len = w }; handles = record { slots = b; len = m }; outcome = Done }) (purgedOf q goes)
+unfolding purgedOf droppedHandles
+purged q goes {n} {s} {w} {i} {b} {m} inv h =
+    let k : Made (q .slots) (kept goes (packets q)) s w = compacted blank (inv .keeping) h in
+    let l : length (packets q) ≤ i = omega (arith, inv .keeping .count) in
+    let none : droppedHandles goes (drop i (packets q)) ≡ [] = simp (drop-of-length-le (packets q) l) in
+    let o = collected _ _ _ _ _ (inv .out) none (omega (arith, inv .few, inv .keeping .low, inv .keeping .most)) in
+    ap₂ (λ (x : PendingQueue) (y : Handles). record { queue = x; handles = y; outcome = Done })
+    (ap₂ (λ (x : Queue) (y : ℕ). record { slots = x; len = y }) (k .slots) (k .count))
+    (ap₂ (λ (x : List ℕ) (y : ℕ). record { slots = x; len = y }) (o .0) (o .1))
+
+module _ (q : PendingQueue) (iface : ℕ) where
+  pub purge-refused : (why : Refusal) → ifaceCheck iface ≡ Fails why
+      → PurgedTo q iface (record { queue = q; handles = record { slots = zeros; len = 0 }; outcome = Refused why })
+  purge-refused why e = record { is = ap (λ (x : Check). purgeBy x q (onIface iface)) (sym e); number = ap checkNumber (sym e) }
+
+  pub purged-iface : {n : ℕ} {s : Queue} {w i : ℕ} {b : List ℕ} {m : ℕ} → ifaceCheck iface ≡ Fine
+      → Purging (onIface iface) (q .slots) (q .len) n s w i b m → n ≤ i
+      → PurgedTo q iface (record { queue = record { slots = s; len = w }; handles = record { slots = b; len = m }; outcome = Done })
+  unfolding purgedOf
+  purged-iface e inv h =
+      record { is = purged q (onIface iface) inv h ∙ ap (λ (x : Check). purgeBy x q (onIface iface)) (sym e); number = ap checkNumber (sym e) }
+
+-- what was found in the cache tells whether the packet is an orphan
+module _ (t : Table) (p : PendingPacket) (a : Bool) (e : a ≡ firstOf (isKey (keyOf p)) awaitsIn false t) where
+  pub stays-awaited : a ≡ true → orphaned t p ≡ false
+  unfolding orphaned
+  stays-awaited h = ap not (sym e ∙ h)
+
+  pub goes-orphaned : a ≡ false → orphaned t p ≡ true
+  unfolding orphaned
+  goes-orphaned h = ap not (sym e ∙ h)
+
+-- Listing
+
+module _ (q : PendingQueue) (n i : ℕ) (full : length (q .slots) ≡ 8) (e : n ≡ min (q .len) 8) where
+  packet-count : n ≡ length (packets q)
+  packet-count = counted (q .slots) (q .len) 8 n full e
+
+  pub at-packet : i < n → Is (getD (q .slots) i blank) ≡ atIndex q i
+  at-packet h =
+      let l : i < length (packets q) = omega (arith, packet-count) in
+      ap Is (sym (entry-at blank (q .slots) (q .len) i l)) ∙ simp (lt-ltb i (length (packets q)) l)
+
+  pub at-none : n ≤ i → NoPacket ≡ atIndex q i
+  at-none h = let l : length (packets q) ≤ i = omega (arith, packet-count) in simp (le-ltb i (length (packets q)) l)

@@ -1,0 +1,2 @@
+pub mod QueueRules
+pub mod QueueCalls

@@ -1,0 +1,103 @@
+-- The calls of the queue: what each answers and leaves. Slots past the packets keep what they held. Assumes nothing.
+use Prim.Native.Nat.{ℕ}
+use mathlib.Core.Path.{_≡_}
+use mathlib.Core.Bool.{Bool, cond}
+use mathlib.Core.List.{List, []}
+use lib.ListN.{take, length, getD, replicate}
+use lib.Dec.{ltb}
+use Rattle.table.specs.Table.{filled, anyOf}
+use Rattle.wire.specs.declared.ipv6.Ipv6Addr.{Ipv6Addr}
+use Rattle.wire.specs.declared.error.Check.{Check}
+use Rattle.wire.specs.declared.error.Check.the-variants.{Fine, Refused as Fails}
+use Rattle.wire.specs.Refusals.{numberOf, checkNumber}
+use Rattle.neighbor.specs.declared.Outcome.the-variants.{Refused, Done}
+use Rattle.neighbor.specs.Answers.{outcomeNumber}
+use Rattle.neighbor.specs.CacheCalls.{key, ifaceCheck}
+use Rattle.neighbor.specs.NeighborRules.{Key}
+use Rattle.pending.specs.declared.PendingPacket.{PendingPacket}
+use Rattle.pending.specs.declared.PendingQueue.{PendingQueue}
+use Rattle.pending.specs.declared.Handles.{Handles}
+use Rattle.pending.specs.declared.Push.{Push}
+use Rattle.pending.specs.declared.Push.the-variants.{Refused as Denied, Queued, Dropped}
+use Rattle.pending.specs.declared.Pushed.{Pushed}
+use Rattle.pending.specs.declared.Release.{Release}
+use Rattle.pending.specs.declared.Release.the-variants.{Refused as Rejected, Nothing, Handle}
+use Rattle.pending.specs.declared.Released.{Released}
+use Rattle.pending.specs.declared.Purged.{Purged}
+use Rattle.pending.specs.declared.Waiting.{Waiting}
+use Rattle.pending.specs.declared.Waiting.the-variants.{Nothing as NoPacket, Is}
+use Rattle.pending.specs.QueueRules.{Queue, packet, hasKey, pushList, pushAnswer, releaseList, releaseAnswer, onIface, droppedHandles, keptPackets}
+
+-- the packets: the first `len` slots; "A count above its size reads as the size"
+abbrev pub packets : PendingQueue → Queue
+packets q = take (q .len) (q .slots)
+
+-- the queue with these packets, whose slots past them hold what they held
+abbrev pub withPackets : PendingQueue → Queue → PendingQueue
+withPackets q xs = record { slots = filled (q .slots) xs; len = length xs }
+
+-- what a slot that was never used holds
+abbrev pub blank : PendingPacket
+blank = record { iface = 0; addr = record { hi = 0; lo = 0 }; handle = 0 }
+
+abbrev pub empty : PendingQueue
+empty = record { slots = replicate 8 blank; len = 0 }
+
+-- handles in their array: past the count are zeros
+abbrev pub zeros : List ℕ
+zeros = replicate 8 0
+
+abbrev pub handlesOf : List ℕ → Handles
+handlesOf hs = record { slots = filled zeros hs; len = length hs }
+
+-- document 01's number of an answer, 0 for none
+
+abbrev pub pushNumber : Push → ℕ
+pushNumber (Denied why) = numberOf why
+pushNumber Queued = 0
+pushNumber (Dropped h) = 0
+
+abbrev pub releaseNumber : Release → ℕ
+releaseNumber (Rejected why) = numberOf why
+releaseNumber Nothing = 0
+releaseNumber (Handle h) = 0
+
+-- Push
+
+abbrev pub pushBy : Check → PendingQueue → PendingPacket → Pushed
+pushBy (Fails why) q p = record { queue = q; answer = Denied why }
+pushBy Fine q p = record { queue = withPackets q (pushList p (packets q)); answer = pushAnswer (packets q) }
+
+pub record PushedTo (q : PendingQueue) (iface : ℕ) (addr : Ipv6Addr) (handle : ℕ) (r : Pushed) : Type 0 where
+  pub is : r ≡ pushBy (ifaceCheck iface) q (packet (key iface addr) handle)
+  pub number : pushNumber (r .answer) ≡ checkNumber (ifaceCheck iface)
+
+-- Release
+
+abbrev pub releaseBy : Check → PendingQueue → Key → Released
+releaseBy (Fails why) q k = record { queue = q; answer = Rejected why }
+releaseBy Fine q k =
+    cond (anyOf (hasKey k) (packets q)) (record { queue = withPackets q (releaseList k (packets q)); answer = releaseAnswer k (packets q) })
+    (record { queue = q; answer = Nothing })
+
+pub record ReleasedTo (q : PendingQueue) (iface : ℕ) (addr : Ipv6Addr) (r : Released) : Type 0 where
+  pub is : r ≡ releaseBy (ifaceCheck iface) q (key iface addr)
+  pub number : releaseNumber (r .answer) ≡ checkNumber (ifaceCheck iface)
+
+-- Purges
+
+unfoldable pub purgedOf : PendingQueue → (PendingPacket → Bool) → Purged
+purgedOf q goes =
+    record { queue = withPackets q (keptPackets goes (packets q)); handles = handlesOf (droppedHandles goes (packets q)); outcome = Done }
+
+abbrev pub purgeBy : Check → PendingQueue → (PendingPacket → Bool) → Purged
+purgeBy (Fails why) q goes = record { queue = q; handles = handlesOf []; outcome = Refused why }
+purgeBy Fine q goes = purgedOf q goes
+
+pub record PurgedTo (q : PendingQueue) (iface : ℕ) (r : Purged) : Type 0 where
+  pub is : r ≡ purgeBy (ifaceCheck iface) q (onIface iface)
+  pub number : outcomeNumber (r .outcome) ≡ checkNumber (ifaceCheck iface)
+
+-- the packet at an index, for a listing
+abbrev pub atIndex : PendingQueue → ℕ → Waiting
+atIndex q i = cond (ltb i (length (packets q))) (Is (getD (packets q) i blank)) NoPacket

@@ -1,0 +1,307 @@
+// The packets that wait for a neighbour's resolution: 32-bit handles under the keys of the neighbour cache, oldest first.
+ghost use mathlib.Core.Path.{_≡_};
+ghost use Rattle.neighbor.specs.CacheCalls.{key, entries};
+ghost use Rattle.pending.specs.QueueRules.{hasKey, awaits, orphaned};
+ghost use Rattle.pending.specs.QueueCalls.{empty, PushedTo, ReleasedTo, purgedOf, PurgedTo, atIndex};
+use neighbor::NeighborCache;
+use neighbor::Outcome;
+use neighbor::State;
+use table::count_of;
+use wire::error::Check;
+use wire::error::Refusal;
+use wire::error::check_iface;
+use wire::ipv6::Ipv6Addr;
+
+// A packet that waits for its key, the interface and the address.
+pub struct PendingPacket {
+    pub iface: u8,
+    pub addr: Ipv6Addr,
+    pub handle: u32,
+}
+
+// The oldest packet stands first.
+pub struct PendingQueue {
+    pub slots: [PendingPacket; 8],
+    pub len: usize,
+}
+
+// Handles that were dropped, in queue order; past the count are zeros.
+pub struct Handles {
+    pub slots: [u32; 8],
+    pub len: usize,
+}
+
+// What became of a push.
+pub enum Push {
+    Refused(Refusal),
+    Queued,
+    // The queue was full: its oldest packet was dropped to make room.
+    Dropped(u32),
+}
+
+pub struct Pushed {
+    pub queue: PendingQueue,
+    pub answer: Push,
+}
+
+// A packet that was taken out to be sent.
+pub enum Release {
+    Refused(Refusal),
+    Nothing,
+    Handle(u32),
+}
+
+pub struct Released {
+    pub queue: PendingQueue,
+    pub answer: Release,
+}
+
+pub struct Purged {
+    pub queue: PendingQueue,
+    pub handles: Handles,
+    pub outcome: Outcome,
+}
+
+// A packet of a listing.
+pub enum Waiting {
+    Nothing,
+    Is(PendingPacket),
+}
+
+// Whether packets go on waiting for an entry in this state.
+fn is_awaited(state: State) -> bool
+    ensures { λ r. ⌜ r ≡ awaits state ⌝ }
+{
+    match state {
+        State::Started => true,
+        State::Incomplete {
+            probes_sent: _,
+            retrans_at: _,
+        } => true,
+        State::Reachable {
+            hardware_addr: _,
+            expires_at: _,
+        } => true,
+        State::Stale { hardware_addr: _ } => false,
+    }
+}
+
+impl PendingPacket {
+    fn has_key(self, iface: u8, addr: Ipv6Addr) -> bool
+        ensures { λ r. ⌜ r ≡ hasKey (key iface addr) self ⌝ }
+    {
+        let a = self.addr;
+        let i = iface == self.iface;
+        let s = addr.same(a);
+        i & s
+    }
+}
+
+impl PendingQueue {
+    pub fn new() -> PendingQueue
+        ensures { λ r. ⌜ r ≡ empty ⌝ }
+    {
+        let nowhere = Ipv6Addr { hi: 0, lo: 0 };
+        let blank = PendingPacket {
+            iface: 0,
+            addr: nowhere,
+            handle: 0,
+        };
+        let slots = [blank; 8];
+        PendingQueue {
+            slots: slots,
+            len: 0,
+        }
+    }
+
+    // Queues a packet that waits for its key to resolve.
+    pub fn push(self, iface: u8, addr: Ipv6Addr, handle: u32) -> Pushed
+        ensures { λ r. ⌜ PushedTo self iface addr handle r ⌝ }
+    {
+        let mut queue = self;
+        let check = check_iface(iface);
+        match check {
+            Check::Refused(why) => {
+                return Pushed {
+                    queue: queue,
+                    answer: Push::Refused(why),
+                };
+            }
+            Check::Fine => {}
+        }
+        let packet = PendingPacket {
+            iface: iface,
+            addr: addr,
+            handle: handle,
+        };
+        let n = count_of(queue.len, 8);
+        if n < 8 {
+            queue.slots[n] = packet;
+            queue.len = n + 1;
+            return Pushed {
+                queue: queue,
+                answer: Push::Queued,
+            };
+        }
+        let oldest = queue.slots[0];
+        let mut hole = 0;
+        let mut next = 1;
+        while next < n {
+            let later = queue.slots[next];
+            queue.slots[hole] = later;
+            hole = next;
+            next += 1;
+        }
+        queue.slots[hole] = packet;
+        queue.len = n;
+        Pushed {
+            queue: queue,
+            answer: Push::Dropped(oldest.handle),
+        }
+    }
+
+    // Takes out the oldest packet of a key; later ones move down.
+    pub fn release(self, iface: u8, addr: Ipv6Addr) -> Released
+        ensures { λ r. ⌜ ReleasedTo self iface addr r ⌝ }
+    {
+        let check = check_iface(iface);
+        match check {
+            Check::Refused(why) => {
+                return Released {
+                    queue: self,
+                    answer: Release::Refused(why),
+                };
+            }
+            Check::Fine => {}
+        }
+        let n = count_of(self.len, 8);
+        let mut i = 0;
+        while i < n {
+            let p = self.slots[i];
+            if p.has_key(iface, addr) {
+                let mut queue = self;
+                let mut hole = i;
+                let mut next = i + 1;
+                while next < n {
+                    let later = queue.slots[next];
+                    queue.slots[hole] = later;
+                    hole = next;
+                    next += 1;
+                }
+                queue.len = hole;
+                return Released {
+                    queue: queue,
+                    answer: Release::Handle(p.handle),
+                };
+            }
+            i += 1;
+        }
+        Released {
+            queue: self,
+            answer: Release::Nothing,
+        }
+    }
+
+    // Drops the packets whose resolution is gone: the entry was removed or evicted, or it resolved and went stale.
+    pub fn purge_orphans(self, cache: NeighborCache) -> Purged
+        ensures { λ r. ⌜ r ≡ purgedOf self (orphaned (entries cache)) ⌝ }
+    {
+        let mut queue = self;
+        let mut handles = [0u32; 8];
+        let n = count_of(queue.len, 8);
+        let k = count_of(cache.len, 16);
+        let mut m = 0;
+        let mut w = 0;
+        let mut i = 0;
+        while i < n {
+            let p = queue.slots[i];
+            let a = p.addr;
+            let mut awaited = false;
+            let mut j = 0;
+            while j < k {
+                let e = cache.slots[j];
+                if e.has_key(p.iface, a) {
+                    let s = e.state;
+                    awaited = is_awaited(s);
+                    break;
+                }
+                j += 1;
+            }
+            i += 1;
+            if awaited {
+                queue.slots[w] = p;
+                w += 1;
+            } else {
+                handles[m] = p.handle;
+                m += 1;
+            }
+        }
+        queue.len = w;
+        Purged {
+            queue: queue,
+            handles: Handles {
+                slots: handles,
+                len: m,
+            },
+            outcome: Outcome::Done,
+        }
+    }
+
+    // Drops the packets of an interface.
+    pub fn purge_iface(self, iface: u8) -> Purged
+        ensures { λ r. ⌜ PurgedTo self iface r ⌝ }
+    {
+        let mut queue = self;
+        let mut handles = [0u32; 8];
+        let check = check_iface(iface);
+        match check {
+            Check::Refused(why) => {
+                return Purged {
+                    queue: queue,
+                    handles: Handles {
+                        slots: handles,
+                        len: 0,
+                    },
+                    outcome: Outcome::Refused(why),
+                };
+            }
+            Check::Fine => {}
+        }
+        let n = count_of(queue.len, 8);
+        let mut m = 0;
+        let mut w = 0;
+        let mut i = 0;
+        while i < n {
+            let p = queue.slots[i];
+            i += 1;
+            if iface == p.iface {
+                handles[m] = p.handle;
+                m += 1;
+            } else {
+                queue.slots[w] = p;
+                w += 1;
+            }
+        }
+        queue.len = w;
+        Purged {
+            queue: queue,
+            handles: Handles {
+                slots: handles,
+                len: m,
+            },
+            outcome: Outcome::Done,
+        }
+    }
+
+    // The packet at an index, for a listing.
+    pub fn at(self, index: usize) -> Waiting
+        ensures { λ r. ⌜ r ≡ atIndex self index ⌝ }
+    {
+        let n = count_of(self.len, 8);
+        if index < n {
+            let p = self.slots[index];
+            return Waiting::Is(p);
+        }
+        Waiting::Nothing
+    }
+}
