@@ -15,24 +15,27 @@ mod port {
     include!(concat!(env!("OUT_DIR"), "/port.rs"));
 }
 
-use port::iface::addr::{AddrAt, AddrOrigin, IfaceAddrs};
+use port::iface::addr::{AddrAt, AddrOrigin, IfaceAddrs, Source};
 use port::iface::route::{Expiry, RouteAt, RouteOrigin, Routes};
 use port::learned::{Phase, PrefixAt, RouterAt, Slaac};
 use port::neighbor::{Answer, Got, Neighbor, NeighborCache, NeighborState, Outcome, State};
-use port::ndisc::ndiscoption::{self, Checked, NdiscOption, PrefixInformation, Written};
+use port::ndisc::ndisc::{Advert, Solicited, router_advert, write_solicit};
+use port::ndisc::ndiscoption::{self, Checked, NdiscOption, Next, PrefixInformation, Walk, Written};
 use port::sweep::ProbeEvent;
-use port::time::{Clock, Deadline, Instant};
-use port::wire::error::Refusal;
+use port::time::{Clock, Deadline, Duration, Instant};
+use port::wire::error::{Check, Refusal, check_time};
 use port::wire::ethernet::HardwareAddress;
-use port::wire::ipv6::{Ipv6Addr, Ipv6Cidr};
+use port::wire::ipv6::{Formed, Ipv6Addr, Ipv6Cidr};
 
 /// What the port has so far.
 const CALLS: &[&str] = &[
     "new", "option", "write", "solicit", "lookup", "start", "fill", "insert", "get", "remove", "clear", "sweep", "cache", "address", "route", "restart", "on",
-    "slaac", "prefixes", "routers", "addresses", "routes",
+    "link", "off", "ra", "poll", "slaac", "prefixes", "routers", "addresses", "routes",
 ];
 
 struct Port {
+    mac: HardwareAddress,
+    up: [bool; 4],
     cache: NeighborCache,
     addrs: [IfaceAddrs; 4],
     routes: Routes,
@@ -42,6 +45,8 @@ struct Port {
 impl Default for Port {
     fn default() -> Self {
         Port {
+            mac: HardwareAddress { hi: 0, lo: 0 },
+            up: [false; 4],
             cache: NeighborCache::new(),
             addrs: [IfaceAddrs::new(); 4],
             routes: Routes::new(),
@@ -121,8 +126,9 @@ impl Port {
 }
 
 impl Side for Port {
-    fn reset(&mut self, _mac: Mac, _first: u64) {
+    fn reset(&mut self, mac: Mac, _first: u64) {
         *self = Port::default();
+        self.mac = hw(mac);
     }
 
     fn option(&mut self, bytes: &[u8]) -> Option<(Held, usize, usize)> {
@@ -181,9 +187,9 @@ impl Side for Port {
         }
     }
     fn solicit(&mut self, buffer: &mut [u8], source: Addr, mac: Mac) -> bool {
-        match port::ndisc::ndisc::write_solicit(buffer, ip(source), hw(mac)) {
-            port::ndisc::ndisc::Solicited::NoRoom => false,
-            port::ndisc::ndisc::Solicited::Written => true,
+        match write_solicit(buffer, ip(source), hw(mac)) {
+            Solicited::NoRoom => false,
+            Solicited::Written => true,
         }
     }
 
@@ -301,8 +307,10 @@ impl Side for Port {
             port::iface::Outcome::Done => Ok(()),
         }
     }
-    fn link(&mut self, _iface: u8, _up: bool) -> Result<(), Refused> {
-        unimplemented!()
+    fn link(&mut self, iface: u8, up: bool) -> Result<(), Refused> {
+        let i = self.known(iface)?;
+        self.up[i] = up;
+        Ok(())
     }
     fn restart(&mut self, iface: u8) -> Result<(), Refused> {
         let c = self.slaac[usize::from(iface.min(3))].restart(iface);
@@ -312,14 +320,117 @@ impl Side for Port {
         let c = self.slaac[usize::from(iface.min(3))].turn_on(iface);
         self.learned(iface, c)
     }
-    fn turn_off(&mut self, _iface: u8) -> Result<(), Refused> {
-        unimplemented!()
+    // The crate with the poll and the advertisement is still to come: the next three put its parts together.
+    fn turn_off(&mut self, iface: u8) -> Result<(), Refused> {
+        let i = self.known(iface)?;
+        if !self.slaac[i].on {
+            return Ok(());
+        }
+        self.slaac[i] = Slaac::off();
+        let cleared = self.addrs[i].clear_slaac();
+        self.addrs[i] = cleared.addrs;
+        self.routes = self.routes.clear_slaac(iface);
+        if cleared.any {
+            self.clear(iface)?;
+        }
+        Ok(())
     }
-    fn advertise(&mut self, _iface: u8, _source: Addr, _now: u64, _message: &[u8]) -> Result<bool, Refused> {
-        unimplemented!()
+    fn advertise(&mut self, iface: u8, source: Addr, now: u64, message: &[u8]) -> Result<bool, Refused> {
+        let (now, source) = (Instant(now), ip(source));
+        if let Check::Refused(why) = check_time(now, iface) {
+            return Err(number(why));
+        }
+        let mut s = self.slaac[usize::from(iface)];
+        if !s.on {
+            return Ok(false);
+        }
+        let header = match router_advert(message) {
+            Advert::Refused(why) => return Err(number(why)),
+            Advert::Header(header) => header,
+        };
+        if !source.is_link_local() {
+            return Err(6);
+        }
+        if let Walk::MalformedAt(_) = ndiscoption::check_options(message, 16) {
+            return Err(1);
+        }
+        let (mut at, mut hardware) = (16, None);
+        while let Next::Option { option, next } = ndiscoption::next_option(message, at) {
+            match option {
+                NdiscOption::PrefixInformation(info) => s = s.process_prefix(info, now),
+                NdiscOption::SourceLinkLayerAddr(m) => hardware = Some(m),
+                _ => {}
+            }
+            at = next;
+        }
+        s = s.process_router(source, Duration::from_secs(header.router_lifetime.into()), now);
+        self.slaac[usize::from(iface)] = s.store_flags(header.managed, header.other_config);
+        if let Some(m) = hardware
+            && m.is_unicast()
+        {
+            let c = self.cache.fill(iface, source, m, now);
+            self.changed(c)?;
+        }
+        Ok(true)
     }
-    fn poll(&mut self, _: u8, _: u64, _: Option<u64>, _: u64) -> Result<(Polled, Option<u64>), Refused> {
-        unimplemented!()
+    fn poll(&mut self, iface: u8, now: u64, before: Option<u64>, room: u64) -> Result<(Polled, Option<u64>), Refused> {
+        let mut k = clock(now, before);
+        let now = Instant(now);
+        if let Check::Refused(why) = check_time(now, iface) {
+            return Err(number(why));
+        }
+        let i = usize::from(iface);
+        if !self.slaac[i].on {
+            return Ok((Polled::Off, before));
+        }
+        let mut polled = Polled::Nothing;
+        if self.up[i]
+            && let Source::From(src) = self.addrs[i].link_local_ipv6_address()
+        {
+            let sol = self.slaac[i].discovery.solicit(k);
+            k = sol.clock;
+            self.slaac[i].discovery = sol.discovery;
+            if sol.due {
+                let mut buffer = vec![0xa5; room as usize];
+                polled = match write_solicit(&mut buffer, src, self.mac) {
+                    Solicited::NoRoom => Polled::NoRoom,
+                    Solicited::Written => Polled::Solicit(buffer[..16].to_vec()),
+                };
+                let rest = buffer.get(16..).unwrap_or(&buffer);
+                assert!(rest.iter().all(|b| *b == 0xa5), "bytes past the message stay");
+            }
+        }
+        let a = self.slaac[i].is_sync_due(k);
+        k = a.clock;
+        if a.expired {
+            let mut n = 0;
+            while let PrefixAt::Is(p) = self.slaac[i].prefix_at(n) {
+                if let Formed::Addr(c) = p.cidr.from_link_prefix(self.mac) {
+                    self.addrs[i] = if p.is_valid(now) {
+                        let preferred = if p.is_preferred(now) {
+                            port::iface::addr::Preferred::Until(p.preferred_until)
+                        } else {
+                            port::iface::addr::Preferred::Never
+                        };
+                        self.addrs[i].put_addr(c, preferred)
+                    } else {
+                        self.addrs[i].drop_addr(c)
+                    };
+                }
+                n += 1;
+            }
+            let mut n = 0;
+            while let RouterAt::Is(r) = self.slaac[i].router_at(n) {
+                self.routes = if r.is_valid(now) {
+                    self.routes.put_route(iface, r.addr, r.valid_until)
+                } else {
+                    self.routes.drop_route(iface, r.addr)
+                };
+                n += 1;
+            }
+            self.slaac[i] = self.slaac[i].update_slaac_state(now);
+        }
+        Ok((polled, deadline(k)))
     }
     fn soliciting(&mut self, iface: u8) -> Result<Option<Soliciting>, Refused> {
         let s = &self.slaac[self.known(iface)?];
