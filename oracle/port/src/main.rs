@@ -21,6 +21,7 @@ use port::learned::{Phase, PrefixAt, RouterAt, Slaac};
 use port::neighbor::{Answer, Got, Neighbor, NeighborCache, NeighborState, Outcome, State};
 use port::ndisc::ndisc::{Advert, Solicited, router_advert, write_solicit};
 use port::ndisc::ndiscoption::{self, Checked, NdiscOption, Next, PrefixInformation, Walk, Written};
+use port::pending::{PendingQueue, Push, Release, Waiting};
 use port::sweep::ProbeEvent;
 use port::time::{Clock, Deadline, Duration, Instant};
 use port::wire::error::{Check, Refusal, check_time};
@@ -29,7 +30,7 @@ use port::wire::ipv6::{Formed, Ipv6Addr, Ipv6Cidr};
 
 /// What the port has so far.
 const CALLS: &[&str] = &[
-    "new", "option", "write", "solicit", "lookup", "start", "fill", "insert", "get", "remove", "clear", "sweep", "cache", "address", "route", "restart", "on",
+    "new", "option", "write", "solicit", "lookup", "start", "fill", "insert", "get", "remove", "clear", "sweep", "cache", "push", "release", "orphans", "purge", "queue", "address", "route", "restart", "on",
     "link", "off", "ra", "poll", "slaac", "prefixes", "routers", "addresses", "routes",
 ];
 
@@ -37,6 +38,7 @@ struct Port {
     mac: HardwareAddress,
     up: [bool; 4],
     cache: NeighborCache,
+    queue: PendingQueue,
     addrs: [IfaceAddrs; 4],
     routes: Routes,
     slaac: [Slaac; 4],
@@ -48,6 +50,7 @@ impl Default for Port {
             mac: HardwareAddress { hi: 0, lo: 0 },
             up: [false; 4],
             cache: NeighborCache::new(),
+            queue: PendingQueue::new(),
             addrs: [IfaceAddrs::new(); 4],
             routes: Routes::new(),
             slaac: [Slaac::new(); 4],
@@ -106,6 +109,14 @@ impl Port {
         match c.outcome {
             Outcome::Refused(why) => Err(number(why)),
             Outcome::Done => Ok(()),
+        }
+    }
+
+    fn purged(&mut self, p: port::pending::Purged) -> Result<Vec<u32>, Refused> {
+        self.queue = p.queue;
+        match p.outcome {
+            Outcome::Refused(why) => Err(number(why)),
+            Outcome::Done => Ok(p.handles.slots[..p.handles.len].to_vec()),
         }
     }
 
@@ -264,20 +275,38 @@ impl Side for Port {
         entries.iter().map(entry).collect()
     }
 
-    fn push(&mut self, _iface: u8, _addr: Addr, _handle: u32) -> Result<Option<u32>, Refused> {
-        unimplemented!()
+    fn push(&mut self, iface: u8, addr: Addr, handle: u32) -> Result<Option<u32>, Refused> {
+        let p = self.queue.push(iface, ip(addr), handle);
+        self.queue = p.queue;
+        match p.answer {
+            Push::Refused(why) => Err(number(why)),
+            Push::Queued => Ok(None),
+            Push::Dropped(h) => Ok(Some(h)),
+        }
     }
-    fn release(&mut self, _iface: u8, _addr: Addr) -> Result<Option<u32>, Refused> {
-        unimplemented!()
+    fn release(&mut self, iface: u8, addr: Addr) -> Result<Option<u32>, Refused> {
+        let r = self.queue.release(iface, ip(addr));
+        self.queue = r.queue;
+        match r.answer {
+            Release::Refused(why) => Err(number(why)),
+            Release::Nothing => Ok(None),
+            Release::Handle(h) => Ok(Some(h)),
+        }
     }
     fn orphans(&mut self) -> Vec<u32> {
-        unimplemented!()
+        let p = self.queue.purge_orphans(self.cache);
+        self.purged(p).unwrap()
     }
-    fn purge(&mut self, _iface: u8) -> Result<Vec<u32>, Refused> {
-        unimplemented!()
+    fn purge(&mut self, iface: u8) -> Result<Vec<u32>, Refused> {
+        let p = self.queue.purge_iface(iface);
+        self.purged(p)
     }
     fn queue(&mut self) -> Vec<(u8, Addr, u32)> {
-        unimplemented!()
+        let mut list = Vec::new();
+        while let Waiting::Is(p) = self.queue.at(list.len()) {
+            list.push((p.iface, p.addr.octets(), p.handle));
+        }
+        list
     }
 
     fn add_address(&mut self, iface: u8, addr: Addr, len: u64) -> Result<(), Refused> {
@@ -332,6 +361,7 @@ impl Side for Port {
         self.routes = self.routes.clear_slaac(iface);
         if cleared.any {
             self.clear(iface)?;
+            self.purge(iface)?;
         }
         Ok(())
     }
