@@ -31,6 +31,10 @@ use Rattle.wire.specs.declared.error.Check.{Check}
 use Rattle.wire.specs.declared.error.Refusal.{Refusal}
 use Rattle.wire.specs.declared.ipv6.Ipv6Addr.{Ipv6Addr}
 
+-- the packets of a queue that was made of them
+pub packets-of : (q : PendingQueue) (xs : Queue) → packets (withPackets q xs) ≡ xs
+packets-of q xs = take-append-seam xs (drop (length xs) (q .slots))
+
 -- One packet more
 
 appended : {s₀ xs s : Queue} {k : ℕ} (y : PendingPacket) → Made s₀ xs s k → k < length s → Made s₀ (xs ++ (y ∷ [])) (set s k y) (k + 1)
@@ -51,9 +55,6 @@ appended {s₀} {xs} {s} {k} y m h =
 -- Push
 
 module _ (q : PendingQueue) (iface : ℕ) (addr : Ipv6Addr) (handle : ℕ) where
-  p : PendingPacket
-  p = packet (key iface addr) handle
-
   pub push-refused : (why : Refusal) → ifaceCheck iface ≡ Fails why → PushedTo q iface addr handle (record { queue = q; answer = Denied why })
   push-refused why e =
       record { is = ap (λ (x : Check). pushBy x q (packet (key iface addr) handle)) (sym e); number = ap checkNumber (sym e) }

@@ -1,2 +1,3 @@
 pub mod QueueRules
 pub mod QueueCalls
+pub mod QueueCount

@@ -5,7 +5,7 @@ use mathlib.Core.Bool.{Bool, cond}
 use mathlib.Core.List.{List, []}
 use lib.ListN.{take, length, getD, replicate}
 use lib.Dec.{ltb}
-use Rattle.table.specs.Table.{filled, anyOf}
+use Rattle.table.specs.Table.{filled, anyOf, kept}
 use Rattle.wire.specs.declared.ipv6.Ipv6Addr.{Ipv6Addr}
 use Rattle.wire.specs.declared.error.Check.{Check}
 use Rattle.wire.specs.declared.error.Check.the-variants.{Fine, Refused as Fails}
@@ -26,7 +26,7 @@ use Rattle.pending.specs.declared.Released.{Released}
 use Rattle.pending.specs.declared.Purged.{Purged}
 use Rattle.pending.specs.declared.Waiting.{Waiting}
 use Rattle.pending.specs.declared.Waiting.the-variants.{Nothing as NoPacket, Is}
-use Rattle.pending.specs.QueueRules.{Queue, packet, hasKey, pushList, pushAnswer, releaseList, releaseAnswer, onIface, droppedHandles, keptPackets}
+use Rattle.pending.specs.QueueRules.{Queue, packet, hasKey, pushList, pushAnswer, releaseList, releaseAnswer, onIface, droppedHandles}
 
 -- the packets: the first `len` slots; "A count above its size reads as the size"
 abbrev pub packets : PendingQueue → Queue
@@ -88,7 +88,7 @@ pub record ReleasedTo (q : PendingQueue) (iface : ℕ) (addr : Ipv6Addr) (r : Re
 
 unfoldable pub purgedOf : PendingQueue → (PendingPacket → Bool) → Purged
 purgedOf q goes =
-    record { queue = withPackets q (keptPackets goes (packets q)); handles = handlesOf (droppedHandles goes (packets q)); outcome = Done }
+    record { queue = withPackets q (kept goes (packets q)); handles = handlesOf (droppedHandles goes (packets q)); outcome = Done }
 
 abbrev pub purgeBy : Check → PendingQueue → (PendingPacket → Bool) → Purged
 purgeBy (Fails why) q goes = record { queue = q; handles = handlesOf []; outcome = Refused why }

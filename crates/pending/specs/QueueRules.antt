@@ -4,7 +4,7 @@ use mathlib.Core.Bool.{Bool, true, false, cond, not}
 use mathlib.Core.List.{List, [], _∷_, _++_, map}
 use lib.ListN.{length, drop}
 use lib.Dec.{ltb, eqb}
-use Rattle.table.specs.Table.{atFirst, firstOf, kept, dropped}
+use Rattle.table.specs.Table.{atFirst, firstOf, dropped}
 use Rattle.neighbor.specs.declared.State.{State}
 use Rattle.neighbor.specs.declared.State.the-variants.{Started, Incomplete, Reachable, Stale}
 use Rattle.neighbor.specs.declared.Entry.{Entry}
@@ -79,6 +79,3 @@ onIface iface p = eqb iface (p .iface)
 -- "Dropped handles come back in queue order."
 unfoldable pub droppedHandles : (PendingPacket → Bool) → Queue → List ℕ
 droppedHandles goes q = map handleOf (dropped goes q)
-
-abbrev pub keptPackets : (PendingPacket → Bool) → Queue → Queue
-keptPackets goes q = kept goes q
