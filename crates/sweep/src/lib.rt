@@ -1,6 +1,6 @@
 // A sweep of an interface: one expiry pass over the whole cache, then the interface's probe events.
 ghost use mathlib.Core.Path.{_≡_};
-ghost use Rattle.sweep.specs.SweepCalls.{SweptTo};
+ghost use Rattle.sweep.specs.SweepCalls.{SweptTo, LentTo};
 ghost use Rattle.sweep.specs.SweepParts.{ExpiryTo, timerOf};
 use neighbor::Entry;
 use neighbor::NeighborCache;
@@ -239,4 +239,13 @@ pub fn sweep_at(cache: NeighborCache, clock: Clock, iface: u8) -> Swept
         },
         outcome: Outcome::Done,
     }
+}
+
+// The sweep at the lent clock's now, which brings the clock's deadline forward.
+pub fn sweep(cache: NeighborCache, clock: &mut Clock, iface: u8) -> Swept
+    ensures { λ r. ⌜ LentTo cache (now (clock .entry)) iface r (now (clock .exit)) ⌝ }
+{
+    let s = sweep_at(cache, *clock, iface);
+    *clock = s.clock;
+    s
 }
