@@ -7,7 +7,7 @@ callees = {
     'sweep_at': dict(params=[('cache', 'NeighborCache'), ('clock', 'Clock'), ('iface', 'u8')], result='Swept', said='SweptTo cache clock iface r'),
 }
 walks = [
-    dict(fn='sweep', params=[('cache', 'NeighborCache'), ('clock', '&mut Clock'), ('iface', 'u8')], result='Swept',
+    dict(fn='sweep', params=[('cache', 'NeighborCache'), ('clock', '&mut Clock'), ('iface', 'u8')], result='Swept', large=['Swept'],
          uses=['use Rattle.sweep.specs.SweepCalls.{SweptTo, LentTo}'],
          ensures='LentTo cache clock iface res clock′', proof='record { swept = e1; clock = refl }'),
 ]
