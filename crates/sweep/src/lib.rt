@@ -1,6 +1,6 @@
 // A sweep of an interface: one expiry pass over the whole cache, then the interface's probe events.
 ghost use mathlib.Core.Path.{_≡_};
-ghost use Rattle.sweep.specs.SweepCalls.{SweptTo, LentTo};
+ghost use Rattle.sweep.specs.SweepCalls.{SweptTo, ReportedTo};
 ghost use Rattle.sweep.specs.SweepParts.{ExpiryTo, timerOf};
 use neighbor::Entry;
 use neighbor::NeighborCache;
@@ -32,6 +32,13 @@ pub struct Events {
 pub struct Swept {
     pub cache: NeighborCache,
     pub clock: Clock,
+    pub events: Events,
+    pub outcome: Outcome,
+}
+
+// A sweep whose clock was lent.
+pub struct Reported {
+    pub cache: NeighborCache,
     pub events: Events,
     pub outcome: Outcome,
 }
@@ -242,10 +249,17 @@ pub fn sweep_at(cache: NeighborCache, clock: Clock, iface: u8) -> Swept
 }
 
 // The sweep at the lent clock's now, which brings the clock's deadline forward.
-pub fn sweep(cache: NeighborCache, clock: &mut Clock, iface: u8) -> Swept
-    ensures { λ r. ⌜ LentTo cache (now (clock .entry)) iface r (now (clock .exit)) ⌝ }
+pub fn sweep(cache: NeighborCache, clock: &mut Clock, iface: u8) -> Reported
+    ensures { λ r. ⌜ ReportedTo cache (now (clock .entry)) iface r (now (clock .exit)) ⌝ }
 {
     let s = sweep_at(cache, *clock, iface);
     *clock = s.clock;
-    s
+    let c = s.cache;
+    let v = s.events;
+    let o = s.outcome;
+    Reported {
+        cache: c,
+        events: v,
+        outcome: o,
+    }
 }

@@ -1,5 +1,5 @@
 -- `sweep::sweep` meets its contract: a walk of its MIR, by hand. All that it knows of `sweep_at` is that each meets its contract. Written by tools/walk.py.
--- Assumes nothing.
+-- Assumes nothing. 
 use mathlib.Core.Path.{_≡_, refl, ap, sym, subst}
 use Prim.Native.Nat.{ℕ}
 use mathlib.Core.List.{[], _∷_, List}
@@ -20,7 +20,7 @@ use contract.Monad.{Fun, fact}
 use contract.Running.{givenOf, tables, tablesOf}
 use types.Kit.{Given, Item, nth, ‵, raw, some, later, _⊛_, ⋆, _$_, _∵_, !, qed, by, move, keep, drop, use1, split, join, pick, rewrite, fsplit, fsplit3, fjoin, fjoin3, feqI, suffices, frame, await, done}
 use types.Run.{Reads, Opd, Finds, Walks as Paths, look, look-raw, init, store-raw, forget, stop, hop, fld, from, load, of-opd, and-then, no-more, assigns, land, returns, enter, alloc1, alloc0, params1, pass1, pass0, free1, free0}
-use types.Part.{Part, whole, sub, look-in}
+use types.Part.{Part, agg, whole, sub, look-in}
 use types.SemTy.{Body}
 use sound.WpLaws.{FmC, fmOf, WpFn-mono}
 use denote.RattleType.{owns}
@@ -33,6 +33,7 @@ use denote.Signature.{plain}
 use denote.Steps.{only, opens, closes, owned, facts, heard, nothing}
 use denote.Struct.Steps.{spelt}
 use denote.Struct.Laws as LL
+use denote.Enum.Laws as EL
 use denote.Triple.Statement.{Contract, Triple}
 use denote.Triple.Call.{calls-at}
 use denote.Triple.Clauses.{ensured, lasts}
@@ -41,13 +42,23 @@ use denote.Triple.Spec.{Meets, tripleOf}
 use denote.Triple.Table.{entered, cited}
 use denote.Triple.Walked.{says, Stays, stay-ref, stay-none, walkOf, AllGo, goes-none, goes-ref, Walks, ends-at, walked, walk-meets}
 use denote.Exit.{yes}
-use Rattle.sweep.specs.SweepCalls.{SweptTo, LentTo}
+use Rattle.sweep.specs.SweepCalls.{SweptTo, ReportedTo}
+use Rattle.sweep.proofs.SweepLaws.{reported}
 use Rattle.time.specs.declared.Clock.{Clock}
 use Rattle.time.proofs.Clock as row-Clock
 use Rattle.time.proofs.Clock.Laws as laws-Clock
+use Rattle.sweep.specs.declared.Events.{Events}
+use Rattle.sweep.proofs.Events as row-Events
+use Rattle.sweep.proofs.Events.Laws as laws-Events
 use Rattle.neighbor.specs.declared.NeighborCache.{NeighborCache}
 use Rattle.neighbor.proofs.NeighborCache as row-NeighborCache
 use Rattle.neighbor.proofs.NeighborCache.Laws as laws-NeighborCache
+use Rattle.neighbor.specs.declared.Outcome.{Outcome}
+use Rattle.neighbor.proofs.Outcome as row-Outcome
+use Rattle.neighbor.proofs.Outcome.Laws as laws-Outcome
+use Rattle.sweep.specs.declared.Reported.{Reported}
+use Rattle.sweep.proofs.Reported as row-Reported
+use Rattle.sweep.proofs.Reported.Laws as laws-Reported
 use Rattle.sweep.specs.declared.Swept.{Swept}
 use Rattle.sweep.proofs.Swept as row-Swept
 use Rattle.sweep.proofs.Swept.Laws as laws-Swept
@@ -59,6 +70,9 @@ use Rattle.sweep.proofs.sweep.Key.{name as #this}
 use Rattle.sweep.proofs.sweep as this
 use Rattle.sweep.proofs.sweep.Statement as stated
 use Rattle.sweep.proofs.sweep.Code as code
+
+abbrev to-Reported : NeighborCache → Events → Outcome → Reported
+to-Reported f0 f1 f2 = record { cache = f0; events = f1; outcome = f2 }
 
 abbrev stayed : Stays (this.ended .signature .params) (this.ended .kept)
 stayed = (stay-none (λ _. row-NeighborCache.the-row) yes, (stay-ref (0 ∷ []) tt (plain (λ _. row-Clock.the-row)), (stay-none (λ _. u8) yes, tt)))
@@ -102,11 +116,29 @@ module _ {M : Type 1} {𝓤 : URA M} {H : Heap 𝓤} {A : Atoms 𝓤} {K : Type 
   opd-field t n i k (tyEnum ν τss) u f g s e = never _ f
   opd-field t n i k (tyNamed ν) u f g s e = never _ f
 module _ {M : Type 1} {𝓤 : URA M} {H : Heap 𝓤} {A : Atoms 𝓤} {K : Type 0} {W : Given 𝓤 H A} where
+  opd-Swept-cache : K → {Γ : List (Item 𝓤)} {E : Env 𝓤 H} (n i : ℕ) {l : ℕ} (r : Swept) → spotOf 𝓤 H E i ≡ (laws-Swept.mir, l, 0) → nth 𝓤 H A n Γ ≡ ‵ (fat fullShare laws-Swept.mir l 0 (LL.val row-Swept.the-type laws-Swept.the-laws r)) → Opd K W Γ E (copy (place i (field 0 ∷ []))) (LL.val row-NeighborCache.the-type laws-NeighborCache.the-laws (r .cache))
+  opd-Swept-cache t n i r s e = opd-field t n i 0 laws-Swept.mir (LL.val row-Swept.the-type laws-Swept.the-laws r) {τ = laws-NeighborCache.mir} refl refl s e
+
   opd-Swept-clock : K → {Γ : List (Item 𝓤)} {E : Env 𝓤 H} (n i : ℕ) {l : ℕ} (r : Swept) → spotOf 𝓤 H E i ≡ (laws-Swept.mir, l, 0) → nth 𝓤 H A n Γ ≡ ‵ (fat fullShare laws-Swept.mir l 0 (LL.val row-Swept.the-type laws-Swept.the-laws r)) → Opd K W Γ E (copy (place i (field 1 ∷ []))) (LL.val row-Clock.the-type laws-Clock.the-laws (r .clock))
   opd-Swept-clock t n i r s e = opd-field t n i 1 laws-Swept.mir (LL.val row-Swept.the-type laws-Swept.the-laws r) {τ = laws-Clock.mir} refl refl s e
 
+  opd-Swept-events : K → {Γ : List (Item 𝓤)} {E : Env 𝓤 H} (n i : ℕ) {l : ℕ} (r : Swept) → spotOf 𝓤 H E i ≡ (laws-Swept.mir, l, 0) → nth 𝓤 H A n Γ ≡ ‵ (fat fullShare laws-Swept.mir l 0 (LL.val row-Swept.the-type laws-Swept.the-laws r)) → Opd K W Γ E (copy (place i (field 2 ∷ []))) (LL.val row-Events.the-type laws-Events.the-laws (r .events))
+  opd-Swept-events t n i r s e = opd-field t n i 2 laws-Swept.mir (LL.val row-Swept.the-type laws-Swept.the-laws r) {τ = laws-Events.mir} refl refl s e
+
+  opd-Swept-outcome : K → {Γ : List (Item 𝓤)} {E : Env 𝓤 H} (n i : ℕ) {l : ℕ} (r : Swept) → spotOf 𝓤 H E i ≡ (laws-Swept.mir, l, 0) → nth 𝓤 H A n Γ ≡ ‵ (fat fullShare laws-Swept.mir l 0 (LL.val row-Swept.the-type laws-Swept.the-laws r)) → Opd K W Γ E (copy (place i (field 3 ∷ []))) (EL.val row-Outcome.the-type laws-Outcome.the-laws (r .outcome))
+  opd-Swept-outcome t n i r s e = opd-field t n i 3 laws-Swept.mir (LL.val row-Swept.the-type laws-Swept.the-laws r) {τ = laws-Outcome.mir} refl refl s e
+
+is-Swept-cache : (r : Swept) (v : Val) → Is row-Swept.the-row r (v ∷ []) → Is row-NeighborCache.the-row (r .cache) ((LL.val row-NeighborCache.the-type laws-NeighborCache.the-laws (r .cache)) ∷ [])
+is-Swept-cache r v p = LL.owed row-Swept.the-type laws-Swept.the-laws r (v ∷ []) p .0
+
 is-Swept-clock : (r : Swept) (v : Val) → Is row-Swept.the-row r (v ∷ []) → Is row-Clock.the-row (r .clock) ((LL.val row-Clock.the-type laws-Clock.the-laws (r .clock)) ∷ [])
 is-Swept-clock r v p = LL.owed row-Swept.the-type laws-Swept.the-laws r (v ∷ []) p .1 .0
+
+is-Swept-events : (r : Swept) (v : Val) → Is row-Swept.the-row r (v ∷ []) → Is row-Events.the-row (r .events) ((LL.val row-Events.the-type laws-Events.the-laws (r .events)) ∷ [])
+is-Swept-events r v p = LL.owed row-Swept.the-type laws-Swept.the-laws r (v ∷ []) p .1 .1 .0
+
+is-Swept-outcome : (r : Swept) (v : Val) → Is row-Swept.the-row r (v ∷ []) → Is row-Outcome.the-row (r .outcome) ((EL.val row-Outcome.the-type laws-Outcome.the-laws (r .outcome)) ∷ [])
+is-Swept-outcome r v p = LL.owed row-Swept.the-type laws-Swept.the-laws r (v ∷ []) p .1 .1 .1 .0
 
 again-Swept : (r : Swept) (v : Val) → Is row-Swept.the-row r (v ∷ []) → Is row-Swept.the-row r ((LL.val row-Swept.the-type laws-Swept.the-laws r) ∷ [])
 again-Swept r v p = LL.owes row-Swept.the-type laws-Swept.the-laws r (LL.owed row-Swept.the-type laws-Swept.the-laws r (v ∷ []) p)
@@ -141,37 +173,40 @@ module _ {M : Type 1} (𝓤 : URA M) (H : Heap 𝓤) (A : Atoms 𝓤) (W : Given
   abbrev Post : Val → SProp 𝓤
   Post = walkOf 𝓤 H A this.ended stayed (this.clauses 𝓤 H A at-mem run) .post (((κ-clock, tt), (q-clock, tt), tt, the-args, the-vals), tt)
 
-  abbrev Ensures : Swept → Clock → Type 0
-  Ensures res clock′ = LentTo cache clock iface res clock′
+  abbrev Ensures : Reported → Clock → Type 0
+  Ensures res clock′ = ReportedTo cache clock iface res clock′
 
-  exits : (res : Swept) (is-res : Is row-Swept.the-row res ((LL.val row-Swept.the-type laws-Swept.the-laws res) ∷ [])) (clock′ : Clock) → Ensures res clock′ → ent 𝓤 (⋆ 𝓤 H A (‵ (fobs γ-clock (row-Clock.the-row .coded .code clock′)) ∷ ‵ (fbor κ-clock (Body (mem row-Clock.the-row) b-clock o-clock γ-clock)) ∷ ‵ (flft κ-clock q-clock) ∷ [])) (Post (LL.val row-Swept.the-type laws-Swept.the-laws res))
+  exits : (res : Reported) (is-res : Is row-Reported.the-row res ((LL.val row-Reported.the-type laws-Reported.the-laws res) ∷ [])) (clock′ : Clock) → Ensures res clock′ → ent 𝓤 (⋆ 𝓤 H A (‵ (fobs γ-clock (row-Clock.the-row .coded .code clock′)) ∷ ‵ (fbor κ-clock (Body (mem row-Clock.the-row) b-clock o-clock γ-clock)) ∷ ‵ (flft κ-clock q-clock) ∷ [])) (Post (LL.val row-Reported.the-type laws-Reported.the-laws res))
   exits res is-res clock′ e =
       qed W (‵ (fobs γ-clock (row-Clock.the-row .coded .code clock′)) ∷ ‵ (fbor κ-clock (Body (mem row-Clock.the-row) b-clock o-clock γ-clock)) ∷ ‵ (flft κ-clock q-clock) ∷ []) ∵
-      suffices ! _ (ends-at 𝓤 H A this.ended stayed (this.clauses 𝓤 H A at-mem run) W (((κ-clock, tt), (q-clock, tt), tt, the-args, the-vals), tt) (LL.val row-Swept.the-type laws-Swept.the-laws res) res (tt, (clock′, (tt, tt))) (tt, (tt, (tt, tt)))) $ says ! e $
+      suffices ! _ (ends-at 𝓤 H A this.ended stayed (this.clauses 𝓤 H A at-mem run) W (((κ-clock, tt), (q-clock, tt), tt, the-args, the-vals), tt) (LL.val row-Reported.the-type laws-Reported.the-laws res) res (tt, (clock′, (tt, tt))) (tt, (tt, (tt, tt)))) $ says ! e $
       nothing ! $ move ! (3 ∷ 0 ∷ []) $ join ! $ frame ! $
-      nothing ! $ owned ! u8 (Is u8) (uint-makes 𝓤 H A W w8) iface _ is-iface $ fjoin ! $ move ! (1 ∷ 2 ∷ []) $ feqI ! (List Val) (vptr b-clock o-clock ∷ []) (vptr b-clock o-clock ∷ []) refl $ fjoin3 ! $ fjoin ! $ owned ! row-NeighborCache.the-row (Is row-NeighborCache.the-row) (LL.makes row-NeighborCache.the-type laws-NeighborCache.the-plain 𝓤 H A) cache _ is-cache $ fjoin ! $ owned ! row-Swept.the-row (Is row-Swept.the-row) (LL.makes row-Swept.the-type laws-Swept.the-plain 𝓤 H A) res _ is-res $ move ! (1 ∷ 0 ∷ []) $ done !
+      nothing ! $ owned ! u8 (Is u8) (uint-makes 𝓤 H A W w8) iface _ is-iface $ fjoin ! $ move ! (1 ∷ 2 ∷ []) $ feqI ! (List Val) (vptr b-clock o-clock ∷ []) (vptr b-clock o-clock ∷ []) refl $ fjoin3 ! $ fjoin ! $ owned ! row-NeighborCache.the-row (Is row-NeighborCache.the-row) (LL.makes row-NeighborCache.the-type laws-NeighborCache.the-plain 𝓤 H A) cache _ is-cache $ fjoin ! $ owned ! row-Reported.the-row (Is row-Reported.the-row) (LL.makes row-Reported.the-type laws-Reported.the-plain 𝓤 H A) res _ is-res $ move ! (1 ∷ 0 ∷ []) $ done !
 
   module _ (C : Calls 𝓤 H) (Λ : Loops 𝓤 H) (fm : FmC 𝓤 H (W .laws) C) (known-callee1 : Triple 𝓤 (C #callee1) (Callee-callee1 𝓤 H A at-mem run)) where
     walk : ent 𝓤 (onEntry 𝓤 H A this.signature (κ-clock, tt) (q-clock, tt) the-args the-vals) (WpFn 𝓤 H C Λ code.function ((LL.val row-NeighborCache.the-type laws-NeighborCache.the-laws cache) ∷ vptr b-clock o-clock ∷ (vint w8 iface) ∷ []) Post)
     walk =
         qed W ((‵ (flft κ-clock q-clock) ⊛ ‵ ftrue) ∷ ‵ (owns (row-NeighborCache.the-row ∷ MutRef (named 0) κ-clock row-Clock.the-row ∷ u8 ∷ []) the-args the-vals) ∷ []) ∵ enter ! C Λ code.function ((LL.val row-NeighborCache.the-type laws-NeighborCache.the-laws cache) ∷ vptr b-clock o-clock ∷ (vint w8 iface) ∷ []) _ $
-        alloc1 ! (λ l0. alloc1 ! (λ l1. alloc1 ! (λ l2. alloc1 ! (λ l3. alloc1 ! (λ l4. alloc1 ! (λ l5. alloc0 ! $ params1 ! $ pass1 ! (init ! 8 refl (LL.lawful row-NeighborCache.the-type laws-NeighborCache.the-laws 𝓤 H A W .typed cache ((LL.val row-NeighborCache.the-type laws-NeighborCache.the-laws cache) ∷ []) is-cache .0)) $ pass1 ! (init ! 6 refl (tt, tt)) $ pass1 ! (init ! 4 refl (uint-lawful 𝓤 H A W w8 .typed iface ((vint w8 iface) ∷ []) is-iface .0)) $ pass0 ! $
-        -- [_5; _4; _3; _2; _1; _0; toks; owns]
-        move ! (13 ∷ []) $ fsplit ! $ drop ! $ fsplit ! $ fsplit3 ! $ drop ! $ move ! (2 ∷ []) $ fsplit ! $ drop ! $ drop ! $ move ! (14 ∷ []) $ split ! $ move ! (1 ∷ []) $ drop ! $
+        alloc1 ! (λ l0. alloc1 ! (λ l1. alloc1 ! (λ l2. alloc1 ! (λ l3. alloc1 ! (λ l4. alloc1 ! (λ l5. alloc1 ! (λ l6. alloc1 ! (λ l7. alloc1 ! (λ l8. alloc0 ! $ params1 ! $ pass1 ! (init ! 14 refl (LL.lawful row-NeighborCache.the-type laws-NeighborCache.the-laws 𝓤 H A W .typed cache ((LL.val row-NeighborCache.the-type laws-NeighborCache.the-laws cache) ∷ []) is-cache .0)) $ pass1 ! (init ! 12 refl (tt, tt)) $ pass1 ! (init ! 10 refl (uint-lawful 𝓤 H A W w8 .typed iface ((vint w8 iface) ∷ []) is-iface .0)) $ pass0 ! $
+        -- [_8; _7; _6; _5; _4; _3; _2; _1; _0; toks; owns]
+        move ! (19 ∷ []) $ fsplit ! $ drop ! $ fsplit ! $ fsplit3 ! $ drop ! $ move ! (2 ∷ []) $ fsplit ! $ drop ! $ drop ! $ move ! (20 ∷ []) $ split ! $ move ! (1 ∷ []) $ drop ! $
         move ! (1 ∷ 2 ∷ 0 ∷ []) $ opens ! tt row-Clock.the-row {h = clock} b-clock o-clock (λ vs. spelt ! row-Clock.the-row (Is row-Clock.the-row) (shows 𝓤 H A row-Clock.the-row) (LL.vals row-Clock.the-type laws-Clock.the-laws) (LL.tells row-Clock.the-type laws-Clock.the-laws) fullShare clock vs b-clock o-clock $ move ! (1 ∷ []) $ facts ! row-Clock.the-row (Is row-Clock.the-row) (shows 𝓤 H A row-Clock.the-row) clock ((LL.val row-Clock.the-type laws-Clock.the-laws clock) ∷ []) (λ g-clock.
-        assigns ! (of-opd ! (load ! (from ! (hop ! (look ! 10 refl) (stop !))) (look-raw ! 0 refl))) (from ! (stop !)) (init ! 4 refl (LL.lawful row-Clock.the-type laws-Clock.the-laws 𝓤 H A W .typed clock ((LL.val row-Clock.the-type laws-Clock.the-laws clock) ∷ []) g-clock .0)) $
+        assigns ! (of-opd ! (load ! (from ! (hop ! (look ! 16 refl) (stop !))) (look-raw ! 0 refl))) (from ! (stop !)) (init ! 4 refl (LL.lawful row-Clock.the-type laws-Clock.the-laws 𝓤 H A W .typed clock ((LL.val row-Clock.the-type laws-Clock.the-laws clock) ∷ []) g-clock .0)) $
         nothing ! $ use1 W (raw (Callee-callee1 𝓤 H A at-mem run .pre (to-callee1 𝓤 H A W at-mem run cache clock iface))) (goes-callee1 𝓤 H A W at-mem run cache clock iface is-cache g-clock is-iface) $
-        calls-at ! fm (Callee-callee1 𝓤 H A at-mem run) known-callee1 (to-callee1 𝓤 H A W at-mem run cache clock iface) (and-then ! (load ! (from ! (stop !)) (look ! 13 refl)) (and-then ! (load ! (from ! (stop !)) (look ! 5 refl)) (and-then ! (load ! (from ! (stop !)) (look ! 9 refl)) (no-more !)))) (λ v1.
+        calls-at ! fm (Callee-callee1 𝓤 H A at-mem run) known-callee1 (to-callee1 𝓤 H A W at-mem run cache clock iface) (and-then ! (load ! (from ! (stop !)) (look ! 19 refl)) (and-then ! (load ! (from ! (stop !)) (look ! 5 refl)) (and-then ! (load ! (from ! (stop !)) (look ! 15 refl)) (no-more !)))) (λ v1.
         use1 W (later (some (λ (r : Swept). (‵ ftrue ⊛ ‵ (row-Swept.the-row .own r (v1 ∷ []))) ⊛ raw (ensured 𝓤 H A callee1.ended (callee1.clauses 𝓤 H A at-mem run) tt (cache, (clock, (iface, tt))) tt r)))) (id⊢ 𝓤 _) $ await ! tt $ pick ! (λ r1. split ! $
         move ! (1 ∷ []) $ use1 W (some (λ (zs : Unit {0} × (Unit {0} × (Unit {0} × Unit {0}))). ‵ (lasts callee1.ended tt (cache, (clock, (iface, tt))) zs) ⊛ raw (fact 𝓤 (Said-callee1 cache clock iface r1)))) (id⊢ 𝓤 _) $ pick ! (λ zs1. split ! $ move ! (1 ∷ []) $ heard ! (Said-callee1 cache clock iface r1) (λ e1.
-        fsplit ! $ drop ! $ fsplit ! $ drop ! $ fsplit ! $ drop ! $ drop ! $ split ! $ drop ! $ facts ! row-Swept.the-row (Is row-Swept.the-row) (shows 𝓤 H A row-Swept.the-row) r1 (v1 ∷ []) (λ is1. land ! (from ! (stop !)) (init ! 6 refl (LL.lawful row-Swept.the-type laws-Swept.the-laws 𝓤 H A W .typed r1 (v1 ∷ []) is1 .0)) $
-        rewrite ! 6 (λ (u : Val). ‵ (fat fullShare laws-Swept.mir l4 0 u)) (tells-Swept r1 v1 is1) refl $
-        -- [cell clock; open clock; obs clock; auth clock; _5; _4; _3; _2; _1; _0]
-        assigns ! (of-opd ! (opd-Swept-clock ! 6 4 r1 refl refl)) (from ! (hop ! (look ! 10 refl) (stop !))) (store-raw ! 0 refl (LL.lawful row-Clock.the-type laws-Clock.the-laws 𝓤 H A W .typed (r1 .clock) ((LL.val row-Clock.the-type laws-Clock.the-laws (r1 .clock)) ∷ []) (is-Swept-clock r1 _ (again-Swept r1 _ is1)) .0)) $
-        assigns ! (of-opd ! (load ! (from ! (stop !)) (look ! 6 refl))) (from ! (stop !)) (init ! 14 refl (LL.lawful row-Swept.the-type laws-Swept.the-laws 𝓤 H A W .typed r1 ((LL.val row-Swept.the-type laws-Swept.the-laws r1) ∷ []) (again-Swept r1 _ is1) .0)) $
+        fsplit ! $ drop ! $ fsplit ! $ drop ! $ fsplit ! $ drop ! $ drop ! $ split ! $ drop ! $ facts ! row-Swept.the-row (Is row-Swept.the-row) (shows 𝓤 H A row-Swept.the-row) r1 (v1 ∷ []) (λ is1. land ! (from ! (stop !)) (init ! 12 refl (LL.lawful row-Swept.the-type laws-Swept.the-laws 𝓤 H A W .typed r1 (v1 ∷ []) is1 .0)) $
+        rewrite ! 12 (λ (u : Val). ‵ (fat fullShare laws-Swept.mir l4 0 u)) (tells-Swept r1 v1 is1) refl $
+        -- [cell clock; open clock; obs clock; auth clock; _8; _7; _6; _5; _4; _3; _2; _1; _0]
+        assigns ! (of-opd ! (opd-Swept-clock ! 12 4 r1 refl refl)) (from ! (hop ! (look ! 16 refl) (stop !))) (store-raw ! 0 refl (LL.lawful row-Clock.the-type laws-Clock.the-laws 𝓤 H A W .typed (r1 .clock) ((LL.val row-Clock.the-type laws-Clock.the-laws (r1 .clock)) ∷ []) (is-Swept-clock r1 _ (again-Swept r1 _ is1)) .0)) $
+        assigns ! (of-opd ! (opd-Swept-cache ! 12 4 r1 refl refl)) (from ! (stop !)) (init ! 10 refl (LL.lawful row-NeighborCache.the-type laws-NeighborCache.the-laws 𝓤 H A W .typed (r1 .cache) ((LL.val row-NeighborCache.the-type laws-NeighborCache.the-laws (r1 .cache)) ∷ []) (is-Swept-cache r1 _ (again-Swept r1 _ is1)) .0)) $
+        assigns ! (of-opd ! (opd-Swept-events ! 12 4 r1 refl refl)) (from ! (stop !)) (init ! 8 refl (LL.lawful row-Events.the-type laws-Events.the-laws 𝓤 H A W .typed (r1 .events) ((LL.val row-Events.the-type laws-Events.the-laws (r1 .events)) ∷ []) (is-Swept-events r1 _ (again-Swept r1 _ is1)) .0)) $
+        assigns ! (of-opd ! (opd-Swept-outcome ! 12 4 r1 refl refl)) (from ! (stop !)) (init ! 6 refl (EL.lawful row-Outcome.the-type laws-Outcome.the-laws 𝓤 H A W tt .typed (r1 .outcome) ((EL.val row-Outcome.the-type laws-Outcome.the-laws (r1 .outcome)) ∷ []) (is-Swept-outcome r1 _ (again-Swept r1 _ is1)) .0)) $
+        assigns ! (agg ! (and-then ! (load ! (from ! (stop !)) (look ! 10 refl)) (and-then ! (load ! (from ! (stop !)) (look ! 8 refl)) (and-then ! (load ! (from ! (stop !)) (look ! 6 refl)) (no-more !))))) (from ! (stop !)) (init ! 20 refl (LL.lawful row-Reported.the-type laws-Reported.the-laws 𝓤 H A W .typed (to-Reported (r1 .cache) (r1 .events) (r1 .outcome)) ((LL.val row-Reported.the-type laws-Reported.the-laws (to-Reported (r1 .cache) (r1 .events) (r1 .outcome))) ∷ []) (LL.owes row-Reported.the-type laws-Reported.the-laws (to-Reported (r1 .cache) (r1 .events) (r1 .outcome)) ((is-Swept-cache r1 _ (again-Swept r1 _ is1)), ((is-Swept-events r1 _ (again-Swept r1 _ is1)), ((is-Swept-outcome r1 _ (again-Swept r1 _ is1)), tt)))) .0)) $
         owned ! row-Clock.the-row (Is row-Clock.the-row) (LL.makes row-Clock.the-type laws-Clock.the-plain 𝓤 H A) (r1 .clock) _ (is-Swept-clock r1 _ (again-Swept r1 _ is1)) $ move ! (1 ∷ 0 ∷ 2 ∷ 3 ∷ 4 ∷ []) $ closes ! tt row-Clock.the-row (r1 .clock) ((LL.val row-Clock.the-type laws-Clock.the-laws (r1 .clock)) ∷ []) b-clock o-clock $
-        returns ! (look ! 13 refl) $ forget ! 3 refl $ forget ! 5 refl $ forget ! 7 refl $ forget ! 9 refl $ forget ! 11 refl $ forget ! 13 refl $
-        move ! (13 ∷ 14 ∷ []) $ free1 ! $ move ! (11 ∷ 12 ∷ []) $ free1 ! $ move ! (9 ∷ 10 ∷ []) $ free1 ! $ move ! (7 ∷ 8 ∷ []) $ free1 ! $ move ! (5 ∷ 6 ∷ []) $ free1 ! $ move ! (3 ∷ 4 ∷ []) $ free1 ! $ free0 ! $ keep ! (0 ∷ 1 ∷ 2 ∷ []) $ by ! (exits r1 (again-Swept r1 _ is1) (r1 .clock) (record { swept = e1; clock = refl })))))))))))))))
+        returns ! (look ! 19 refl) $ forget ! 3 refl $ forget ! 5 refl $ forget ! 7 refl $ forget ! 9 refl $ forget ! 11 refl $ forget ! 13 refl $ forget ! 15 refl $ forget ! 17 refl $ forget ! 19 refl $
+        move ! (19 ∷ 20 ∷ []) $ free1 ! $ move ! (17 ∷ 18 ∷ []) $ free1 ! $ move ! (15 ∷ 16 ∷ []) $ free1 ! $ move ! (13 ∷ 14 ∷ []) $ free1 ! $ move ! (11 ∷ 12 ∷ []) $ free1 ! $ move ! (9 ∷ 10 ∷ []) $ free1 ! $ move ! (7 ∷ 8 ∷ []) $ free1 ! $ move ! (5 ∷ 6 ∷ []) $ free1 ! $ move ! (3 ∷ 4 ∷ []) $ free1 ! $ free0 ! $ keep ! (0 ∷ 1 ∷ 2 ∷ []) $ by ! (exits (to-Reported (r1 .cache) (r1 .events) (r1 .outcome)) (LL.owes row-Reported.the-type laws-Reported.the-laws (to-Reported (r1 .cache) (r1 .events) (r1 .outcome)) ((is-Swept-cache r1 _ (again-Swept r1 _ is1)), ((is-Swept-events r1 _ (again-Swept r1 _ is1)), ((is-Swept-outcome r1 _ (again-Swept r1 _ is1)), tt)))) (r1 .clock) (reported _ _ _ _ e1))))))))))))))))))
 
 module _ {M : Type 1} (𝓤 : URA M) (H : Heap 𝓤) (A : Atoms 𝓤) (W : Given 𝓤 H A) (at-mem : Memory → SProp 𝓤) (run : Routine → Fun 𝓤) where
   walks : (C : Calls 𝓤 H) (Λ : Loops 𝓤 H) → FmC 𝓤 H (W .laws) C → Triple 𝓤 (C #callee1) (Callee-callee1 𝓤 H A at-mem run) → Walks 𝓤 H A this.ended stayed (WpFn 𝓤 H C Λ code.function) (this.clauses 𝓤 H A at-mem run)
