@@ -19,9 +19,9 @@ use Rattle.sweep.specs.declared.ProbeEvent.the-variants.{Retransmit, Fai
 use Rattle.sweep.specs.declared.ProbeEvent.{ProbeEvent}
 use Rattle.sweep.specs.declared.Timer.the-variants.{NotDue, Spent, Rearmed}
 use Rattle.table.proofs.First.{first-here, first-later, first-none}
+use Rattle.table.proofs.Laws.{entry-at, entries-from, over, moved-in, moved-count, Collecting, collect, collected}
 use Rattle.table.specs.Table.{swapRemove, filled}
 use Rattle.time.specs.declared.Instant.{Instant}
-use Rattle.table.proofs.Laws.{entry-at, entries-from, over, moved-in, moved-count, Collecting, collect, collected}
 use Rattle.table.proofs.Laws as table
 
 -- What one step of events leaves to do

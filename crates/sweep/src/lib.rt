@@ -209,26 +209,26 @@ pub fn sweep_at(cache: NeighborCache, clock: Clock, iface: u8) -> Swept
     let mut count = 0;
     let mut place = 0;
     while place < len {
-        let e = c.slots[place];
+        let at = place;
+        place += 1;
+        let e = c.slots[at];
         let a = e.addr;
         let timer = advance(e, iface, now);
         match timer {
-            Timer::NotDue => {
-                place += 1;
-            }
+            Timer::NotDue => {}
             Timer::Spent => {
-                // The last entry moves into `place`, and is examined next.
+                // The last entry moves into `at`, and is examined next.
                 let last = c.slots[len - 1];
-                c.slots[place] = last;
+                c.slots[at] = last;
                 len -= 1;
+                place = at;
                 events[count] = EventSlot {
                     event: ProbeEvent::Failed(a),
                 };
                 count += 1;
             }
             Timer::Rearmed(y) => {
-                c.slots[place] = y;
-                place += 1;
+                c.slots[at] = y;
                 events[count] = EventSlot {
                     event: ProbeEvent::Retransmit(a),
                 };

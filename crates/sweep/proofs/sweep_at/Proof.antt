@@ -54,8 +54,8 @@ expire-state-requires c κs = search needs
 add-i : tie.Need-add-i Inv-loop μ-loop Inv-loop2 μ-loop2
 add-i c = omega (arith, c .before .before .before .before .loop .inv .entry-wise .most)
 
-mul-t38 : tie.Need-mul-t38 Inv-loop μ-loop Inv-loop2 μ-loop2
-mul-t38 c = omega (arith, c .before .before .before .before .before .before .loop .inv .entry-wise .most)
+mul-t39 : tie.Need-mul-t39 Inv-loop μ-loop Inv-loop2 μ-loop2
+mul-t39 c = omega (arith, c .before .before .before .before .before .before .loop .inv .entry-wise .most)
 
 element-set-from-c : tie.Need-element-set-from-c Inv-loop μ-loop Inv-loop2 μ-loop2
 element-set-from-c c = omega (arith, c .before .before .before .before .before .before .loop .inv .entry-wise .most)
@@ -75,6 +75,9 @@ loop-again-2 c = keep _ _ _ _ _ _ (c .before .before .before .before .before .lo
 loop2-holds : tie.Need-loop2-holds Inv-loop μ-loop Inv-loop2 μ-loop2
 loop2-holds c = probing (c .before .before .before .before .before .before .before .args .iface) _ _ _ _ (c .before .loop .inv .entry-wise .full) (c .before .loop .inv .entry-wise .most) refl
 
+add-place : tie.Need-add-place Inv-loop μ-loop Inv-loop2 μ-loop2
+add-place c = omega (arith, c .before .loop2 .inv .most)
+
 mul-e-2 : tie.Need-mul-e-2 Inv-loop μ-loop Inv-loop2 μ-loop2
 mul-e-2 c = omega (arith, c .before .loop2 .inv .most)
 
@@ -86,9 +89,6 @@ advance-requires c κs = search needs
 
 enum-told-2 : tie.Need-enum-told-2 Inv-loop μ-loop Inv-loop2 μ-loop2
 enum-told-2 c = search needs
-
-add-place : tie.Need-add-place Inv-loop μ-loop Inv-loop2 μ-loop2
-add-place c = omega (arith, c .before .before .before .before .before .before .loop2 .inv .most)
 
 loop2-less : tie.Need-loop2-less Inv-loop μ-loop Inv-loop2 μ-loop2
 loop2-less c = omega arith
@@ -141,9 +141,6 @@ mul-y c = omega (arith, c .before .before .before .before .before .before .befor
 element-set-from-y : tie.Need-element-set-from-y Inv-loop μ-loop Inv-loop2 μ-loop2
 element-set-from-y c = omega (arith, c .before .before .before .before .before .before .before .loop2 .inv .most)
 
-add-place-2 : tie.Need-add-place-2 Inv-loop μ-loop Inv-loop2 μ-loop2
-add-place-2 c = omega (arith, c .before .before .before .before .before .before .before .loop2 .inv .most)
-
 mul-events-2 : tie.Need-mul-events-2 Inv-loop μ-loop Inv-loop2 μ-loop2
 mul-events-2 c = omega (arith, c .before .before .before .before .before .before .before .loop2 .inv .room)
 
@@ -180,18 +177,18 @@ sweep-at-spec =
     element-copy-out-e
     expire-state-requires
     add-i
-    mul-t38
+    mul-t39
     element-set-from-c
     loop-less
     loop-again
     loop-less-2
     loop-again-2
     loop2-holds
+    add-place
     mul-e-2
     element-copy-out-e-2
     advance-requires
     enum-told-2
-    add-place
     loop2-less
     loop2-again
     enum-told-3
@@ -209,7 +206,6 @@ sweep-at-spec =
     enum-known-timer
     mul-y
     element-set-from-y
-    add-place-2
     mul-events-2
     array-set-from-events-2
     add-count-2
