@@ -2,6 +2,7 @@
 ghost use mathlib.Core.Path.{_≡_};
 ghost use Rattle.sweep.specs.SweepCalls.{SweptTo, ReportedTo};
 ghost use Rattle.sweep.specs.SweepParts.{ExpiryTo, timerOf};
+ghost use Rattle.sweep.specs.SweepRules.{expireClockState};
 use neighbor::Entry;
 use neighbor::NeighborCache;
 use neighbor::Outcome;
@@ -43,11 +44,10 @@ pub struct Reported {
     pub outcome: Outcome,
 }
 
-// What the expiry pass makes of a state, and the clock after it.
+// What the expiry pass makes of a state.
 struct Expiry {
     changed: bool,
     state: State,
-    clock: Clock,
 }
 
 // What the probe events make of an entry.
@@ -59,65 +59,79 @@ enum Timer {
     Rearmed(Entry),
 }
 
-// An expired mapping becomes stale, the timer of a resolution that was started is set, and every time that has not come
-// counts toward the deadline.
-fn expire_state(state: State, clock: Clock) -> Expiry
-    ensures { λ r. ⌜ ExpiryTo state clock r ⌝ }
+// The timer of a resolution that was started is set, and an expired mapping becomes stale.
+fn expire_state(state: State, now: Instant) -> Expiry
+    ensures { λ r. ⌜ ExpiryTo state now r ⌝ }
 {
     match state {
         State::Started => {
-            let now = clock.now;
             let due = now.add(NeighborCache::RETRANS_TIMER);
-            let k = time::scheduled(clock, due);
             Expiry {
                 changed: true,
                 state: State::Incomplete {
                     probes_sent: 1,
                     retrans_at: due,
                 },
-                clock: k,
             }
         }
         // A due one is retransmitted by the probe events of its interface.
         State::Incomplete {
             probes_sent: _,
-            retrans_at,
-        } => {
-            let answer = time::asked(clock, retrans_at);
-            let k = answer.clock;
-            Expiry {
-                changed: false,
-                state: state,
-                clock: k,
-            }
-        }
+            retrans_at: _,
+        } => Expiry {
+            changed: false,
+            state: state,
+        },
         State::Reachable {
             hardware_addr,
             expires_at,
         } => {
-            let answer = time::asked(clock, expires_at);
-            let k = answer.clock;
-            if answer.expired {
+            if expires_at.0 <= now.0 {
                 Expiry {
                     changed: true,
                     state: State::Stale {
                         hardware_addr: hardware_addr,
                     },
-                    clock: k,
                 }
             } else {
                 Expiry {
                     changed: false,
                     state: state,
-                    clock: k,
                 }
             }
         }
         State::Stale { hardware_addr: _ } => Expiry {
             changed: false,
             state: state,
-            clock: clock,
         },
+    }
+}
+
+// Every timer and expiry that has not passed counts toward the deadline.
+fn expire_clock(state: State, clock: Clock) -> Clock
+    ensures { λ r. ⌜ r ≡ expireClockState clock state ⌝ }
+{
+    match state {
+        State::Started => {
+            let now = clock.now;
+            let due = now.add(NeighborCache::RETRANS_TIMER);
+            time::scheduled(clock, due)
+        }
+        State::Incomplete {
+            probes_sent: _,
+            retrans_at,
+        } => {
+            let answer = time::asked(clock, retrans_at);
+            answer.clock
+        }
+        State::Reachable {
+            hardware_addr: _,
+            expires_at,
+        } => {
+            let answer = time::asked(clock, expires_at);
+            answer.clock
+        }
+        State::Stale { hardware_addr: _ } => clock,
     }
 }
 
@@ -192,8 +206,8 @@ pub fn sweep_at(cache: NeighborCache, clock: Clock, iface: u8) -> Swept
     while i < len {
         let e = c.slots[i];
         let s = e.state;
-        let x = expire_state(s, k);
-        k = x.clock;
+        let x = expire_state(s, now);
+        k = expire_clock(s, k);
         let at = i;
         i += 1;
         if x.changed {

@@ -51,6 +51,9 @@ element-copy-out-e c = omega (arith, c .before .loop .inv .entry-wise .most)
 expire-state-requires : tie.Need-expire-state-requires Inv-loop μ-loop Inv-loop2 μ-loop2
 expire-state-requires c κs = search needs
 
+expire-clock-requires : tie.Need-expire-clock-requires Inv-loop μ-loop Inv-loop2 μ-loop2
+expire-clock-requires c κs = search needs
+
 add-i : tie.Need-add-i Inv-loop μ-loop Inv-loop2 μ-loop2
 add-i c = omega (arith, c .before .before .before .before .loop .inv .entry-wise .most)
 
@@ -64,13 +67,13 @@ loop-less : tie.Need-loop-less Inv-loop μ-loop Inv-loop2 μ-loop2
 loop-less c = omega arith
 
 loop-again : tie.Need-loop-again Inv-loop μ-loop Inv-loop2 μ-loop2
-loop-again c = store _ _ _ _ _ _ (c .before .before .before .before .before .before .loop .inv) (c .before .before .before .before .before .loop-test .taken) _ (c .before .before .before .expire-state .ensures)
+loop-again c = store _ _ _ _ _ _ (c .before .before .before .before .before .before .loop .inv) (c .before .before .before .before .before .loop-test .taken) _ (c .before .before .before .expire-state .ensures) _ (c .before .before .expire-clock .ensures)
 
 loop-less-2 : tie.Need-loop-less-2 Inv-loop μ-loop Inv-loop2 μ-loop2
 loop-less-2 c = omega arith
 
 loop-again-2 : tie.Need-loop-again-2 Inv-loop μ-loop Inv-loop2 μ-loop2
-loop-again-2 c = keep _ _ _ _ _ _ (c .before .before .before .before .before .loop .inv) (c .before .before .before .before .loop-test .taken) _ (c .before .before .expire-state .ensures) (c .if1 .left)
+loop-again-2 c = keep _ _ _ _ _ _ (c .before .before .before .before .before .loop .inv) (c .before .before .before .before .loop-test .taken) _ (c .before .before .expire-state .ensures) _ (c .before .expire-clock .ensures) (c .if1 .left)
 
 loop2-holds : tie.Need-loop2-holds Inv-loop μ-loop Inv-loop2 μ-loop2
 loop2-holds c = probing (c .before .before .before .before .before .before .before .args .iface) _ _ _ _ (c .before .loop .inv .entry-wise .full) (c .before .loop .inv .entry-wise .most) refl
@@ -176,6 +179,7 @@ sweep-at-spec =
     mul-e
     element-copy-out-e
     expire-state-requires
+    expire-clock-requires
     add-i
     mul-t39
     element-set-from-c
