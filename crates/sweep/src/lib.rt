@@ -268,12 +268,9 @@ pub fn sweep(cache: NeighborCache, clock: &mut Clock, iface: u8) -> Reported
 {
     let s = sweep_at(cache, *clock, iface);
     *clock = s.clock;
-    let c = s.cache;
-    let v = s.events;
-    let o = s.outcome;
     Reported {
-        cache: c,
-        events: v,
-        outcome: o,
+        cache: s.cache,
+        events: s.events,
+        outcome: s.outcome,
     }
 }
