@@ -1,0 +1,3 @@
+pub mod SyncLaws
+pub mod PollLaws
+pub mod AdvertLaws

@@ -1,0 +1,175 @@
+-- Laws of the poll.
+use Prim.Native.Nat.{ℕ}
+use lib.Dec.{leb}
+use lib.ListN.{length}
+use mathlib.Core.Bool.{Bool, true, false, cond}
+use mathlib.Core.List.{List}
+use mathlib.Core.Path.{_≡_, refl, ap, sym, _∙_}
+use Rattle.iface.specs.AddressRules.{addrsOf, firstLocal}
+use Rattle.iface.specs.declared.addr.IfaceAddrs.{IfaceAddrs}
+use Rattle.iface.specs.declared.addr.Source.the-variants.{Nothing, From}
+use Rattle.iface.specs.declared.addr.Source.{Source}
+use Rattle.iface.specs.declared.route.Routes.{Routes}
+use Rattle.learned.specs.DiscoveryRules.{solicitation, withDiscovery}
+use Rattle.learned.specs.ExpiryRules.{syncDue, leaveExpired}
+use Rattle.learned.specs.declared.Discovery.{Discovery}
+use Rattle.learned.specs.declared.Slaac.{Slaac}
+use Rattle.learned.specs.declared.Solicitation.{Solicitation}
+use Rattle.ndisc.specs.Rfc4861Messages.{solicitedOf, solicitIn, Solicits}
+use Rattle.ndisc.specs.declared.ndisc.Solicited.the-variants.{NoRoom as NoPlace, Written}
+use Rattle.ndisc.specs.declared.ndisc.Solicited.{Solicited as Wrote}
+use Rattle.slaac.specs.Answers.{pollNumber, callCheck}
+use Rattle.slaac.specs.PollRules.{senderOf, solicitFrom, answerOf, turnBy, bufferBy, turnOf, bufferOf, TurnTo, polled, synced, syncTurn, afterTurn, senderIn, pollOn, pollBy, pollBuffer, PolledTo}
+use Rattle.slaac.specs.SyncRules.{syncAddrs, syncRoutes}
+use Rattle.slaac.specs.declared.PollAnswer.the-variants.{Refused, Off, Quiet, Solicited, NoRoom}
+use Rattle.slaac.specs.declared.PollAnswer.{PollAnswer}
+use Rattle.slaac.specs.declared.Polled.{Polled}
+use Rattle.slaac.specs.declared.Turn.{Turn}
+use Rattle.time.specs.declared.Answer.{Answer}
+use Rattle.time.specs.declared.Clock.{Clock}
+use Rattle.time.specs.declared.Instant.{Instant}
+use Rattle.wire.specs.Refusals.{checkNumber}
+use Rattle.wire.specs.declared.error.Check.the-variants.{Fine, Refused as Fails}
+use Rattle.wire.specs.declared.error.Check.{Check}
+use Rattle.wire.specs.declared.error.Refusal.{Refusal}
+use Rattle.wire.specs.declared.ethernet.HardwareAddress.{HardwareAddress}
+use Rattle.wire.specs.declared.ipv6.Ipv6Addr.{Ipv6Addr}
+
+-- Solicitation
+
+abbrev pub turned : Discovery → Clock → PollAnswer → Turn
+turned d k a = record { discovery = d; clock = k; answer = a }
+
+module _ (d : Discovery) (hw : HardwareAddress) (buf : List ℕ) (k : Clock) where
+  -- no sender
+  pub turn-none : (sender : Source) → sender ≡ Nothing → TurnTo d sender hw buf k (turned d k Quiet) buf
+  unfolding turnOf bufferOf
+  turn-none sender e =
+      record {
+        is = ap (λ (x : Source). turnBy (solicitFrom x d k) buf) (sym e);
+        leaves = ap (λ (x : Source). bufferBy x (solicitFrom x d k .due) hw buf) (sym e);
+      }
+
+  module _ (sender : Source) (a : Ipv6Addr) (e : sender ≡ From a) (s : Solicitation) (g : s ≡ solicitation d k) where
+    -- what a sender's turn is, by whether a solicitation is due
+    from-sender : (t : Turn) (buf′ : List ℕ) → t ≡ turnBy s buf → buf′ ≡ bufferBy (From a) (s .due) hw buf → TurnTo d sender hw buf k t buf′
+    unfolding turnOf bufferOf
+    from-sender t buf′ p q =
+        record {
+          is = p ∙ (ap (λ (x : Solicitation). turnBy x buf) g ∙ ap (λ (x : Source). turnBy (solicitFrom x d k) buf) (sym e));
+          leaves =
+              q
+              ∙ (ap (λ (x : Solicitation). bufferBy (From a) (x .due) hw buf) g
+              ∙ ap (λ (x : Source). bufferBy x (solicitFrom x d k .due) hw buf) (sym e));
+        }
+
+    pub turn-early : s .due ≡ false → TurnTo d sender hw buf k (turned (s .discovery) (s .clock) Quiet) buf
+    turn-early h =
+        from-sender (turned (s .discovery) (s .clock) Quiet) buf
+        (ap (λ (b : Bool). turned (s .discovery) (s .clock) (answerOf b buf)) (sym h))
+        (ap (λ (b : Bool). bufferBy (From a) b hw buf) (sym h))
+
+    module _ (h : s .due ≡ true) (r : Wrote) (buf′ : List ℕ) (w : Solicits buf a hw r buf′) where
+      said : (x : PollAnswer) → x ≡ cond (leb 16 (length buf)) Solicited NoRoom → TurnTo d sender hw buf k (turned (s .discovery) (s .clock) x) buf′
+      said x f =
+          from-sender (turned (s .discovery) (s .clock) x) buf′
+          (ap (λ (y : PollAnswer). turned (s .discovery) (s .clock) y) f ∙ ap (λ (b : Bool). turned (s .discovery) (s .clock) (answerOf b buf)) (sym h))
+          (w .leaves ∙ ap (λ (b : Bool). bufferBy (From a) b hw buf) (sym h))
+
+      pub turn-sent : r ≡ Written → TurnTo d sender hw buf k (turned (s .discovery) (s .clock) Solicited) buf′
+      turn-sent f = said Solicited (go (leb 16 (length buf)) (sym (w .is) ∙ f))
+        where
+          go : (b : Bool) → cond {A = Wrote} b Written NoPlace ≡ Written → Solicited ≡ cond b Solicited NoRoom
+          go true z = refl
+          go false z = cc
+
+      pub turn-full : r ≡ NoPlace → TurnTo d sender hw buf k (turned (s .discovery) (s .clock) NoRoom) buf′
+      turn-full f = said NoRoom (go (leb 16 (length buf)) (sym (w .is) ∙ f))
+        where
+          go : (b : Bool) → cond {A = Wrote} b Written NoPlace ≡ NoPlace → NoRoom ≡ cond b Solicited NoRoom
+          go true z = cc
+          go false z = refl
+
+pub down : (up : Bool) (source : Source) → up ≡ false → senderOf up source ≡ Nothing
+down up source e = simp e
+
+pub nowhere : (up : Bool) (source : Source) → source ≡ Nothing → senderOf up source ≡ Nothing
+nowhere true source e = e
+nowhere false source e = refl
+
+pub somewhere : (up : Bool) (source : Source) (a : Ipv6Addr) → up ≡ true → source ≡ From a → senderOf up source ≡ From a
+somewhere up source a e f = simp e f
+
+-- The sync's turn
+
+module _ (s : Slaac) (t : IfaceAddrs) (r : Routes) (iface : ℕ) (hw : HardwareAddress) (now : Instant) (k : Clock) (a : PollAnswer) (x : Answer)
+    (e : x ≡ syncDue s k) where
+  answered : (b : Bool) → x .expired ≡ b → syncDue s k .expired ≡ b
+  answered b h = ap (λ (z : Answer). z .expired) (sym e) ∙ h
+
+  pub sync-due : (s′ : Slaac) (t′ : IfaceAddrs) (r′ : Routes) → x .expired ≡ true → s′ ≡ leaveExpired now s → t′ ≡ syncAddrs hw now t s
+      → r′ ≡ syncRoutes iface now r s → polled s′ t′ r′ (x .clock) a ≡ syncTurn s t r iface hw now k a
+  unfolding syncTurn
+  sync-due s′ t′ r′ h f g l = simp (answered true h) (λ i. polled (f i) (g i) (l i) (e i .clock) a)
+
+  pub sync-idle : x .expired ≡ false → polled s t r (x .clock) a ≡ syncTurn s t r iface hw now k a
+  unfolding syncTurn
+  sync-idle h = simp (answered false h) (ap (λ (z : Answer). polled s t r (z .clock) a) e)
+
+-- The poll
+
+on-yes : {A : Type 0} (b : Bool) (x y p : A) → b ≡ true → p ≡ x → p ≡ cond b x y
+on-yes b x y p e f = simp e f
+
+on-no : {A : Type 0} (b : Bool) (x y p : A) → b ≡ false → p ≡ y → p ≡ cond b x y
+on-no b x y p e f = simp e f
+
+module _ (s : Slaac) (t : IfaceAddrs) (r : Routes) (iface : ℕ) (up : Bool) (hw : HardwareAddress) (buf : List ℕ) (k : Clock) where
+  pub poll-refused : (why : Refusal) → callCheck (k .now) iface ≡ Fails why
+      → PolledTo s t r iface up hw buf k (polled s t r k (Refused why)) buf
+  poll-refused why e =
+      record {
+        is = ap (λ (c : Check). pollBy c s t r iface up hw buf k) (sym e);
+        number = ap checkNumber (sym e);
+        leaves = ap (λ (c : Check). pollBuffer c s t up hw buf k) (sym e);
+      }
+
+  module _ (e : callCheck (k .now) iface ≡ Fine) where
+    -- by the checks, what is left of the promise
+    fine : (p : Polled) (buf′ : List ℕ) → p ≡ pollBy Fine s t r iface up hw buf k → pollNumber (p .answer) ≡ 0
+        → buf′ ≡ pollBuffer Fine s t up hw buf k → PolledTo s t r iface up hw buf k p buf′
+    fine p buf′ f n g =
+        record {
+          is = f ∙ ap (λ (c : Check). pollBy c s t r iface up hw buf k) (sym e);
+          number = n ∙ ap checkNumber (sym e);
+          leaves = g ∙ ap (λ (c : Check). pollBuffer c s t up hw buf k) (sym e);
+        }
+
+    pub poll-off : s .on ≡ false → PolledTo s t r iface up hw buf k (polled s t r k Off) buf
+    poll-off o =
+        fine (polled s t r k Off) buf
+        (on-no (s .on) (pollOn s t r iface up hw buf k) (polled s t r k Off) (polled s t r k Off) o refl) refl
+        (on-no (s .on) (bufferOf (s .discovery) (senderIn up t) hw buf k) buf buf o refl)
+
+    turn-number : (u : Turn) (d : Discovery) (sender : Source) → u ≡ turnOf d sender buf k → pollNumber (u .answer) ≡ 0
+    unfolding turnOf
+    turn-number u d sender f = ap (λ (z : Turn). pollNumber (z .answer)) f ∙ quiet (solicitFrom sender d k .due) (leb 16 (length buf))
+      where
+        quiet : (b c : Bool) → pollNumber (cond b (cond c Solicited NoRoom) Quiet) ≡ 0
+        quiet true true = refl
+        quiet true false = refl
+        quiet false c = refl
+
+    pub poll-on : (source : Source) (u : Turn) (p : Polled) (buf′ : List ℕ) → s .on ≡ true → source ≡ firstLocal (addrsOf t)
+        → TurnTo (s .discovery) (senderOf up source) hw buf k u buf′ → p .answer ≡ u .answer → p ≡ afterTurn u s t r iface hw (k .now)
+        → PolledTo s t r iface up hw buf k p buf′
+    unfolding pollOn
+    poll-on source u p buf′ o f w n g =
+        let same : u ≡ turnOf (s .discovery) (senderIn up t) buf k =
+        w .is ∙ ap (λ (z : Source). turnOf (s .discovery) (senderOf up z) buf k) f in
+        let left : buf′ ≡ bufferOf (s .discovery) (senderIn up t) hw buf k =
+        w .leaves ∙ ap (λ (z : Source). bufferOf (s .discovery) (senderOf up z) hw buf k) f in
+        fine p buf′
+        (on-yes (s .on) (pollOn s t r iface up hw buf k) (polled s t r k Off) p o (g ∙ ap (λ (z : Turn). afterTurn z s t r iface hw (k .now)) same))
+        (ap pollNumber n ∙ turn-number u (s .discovery) (senderOf up source) (w .is))
+        (on-yes (s .on) (bufferOf (s .discovery) (senderIn up t) hw buf k) buf buf′ o left)

@@ -1,0 +1,19 @@
+use borrow.Author.Needs.{needs}
+use mathlib.Core.Path.{sym, _∙_}
+use Rattle.slaac.proofs.sync.preferred.Statement.{statement}
+use Rattle.slaac.proofs.sync.preferred.Tie as tie
+use Rattle.slaac.proofs.sync.preferred.Reads as reads
+use Rattle.slaac.proofs.sync.preferred.Lts as lts
+use Rattle.learned.proofs.Prefix.is_preferred.Reads as is-preferred-reads
+
+is-preferred-requires : tie.Need-is-preferred-requires
+is-preferred-requires c κs = search needs
+
+returns : tie.Need-returns
+returns c = simp (sym (c .before .before .is-preferred .ensures) ∙ c .before .if1 .taken)
+
+returns-2 : tie.Need-returns-2
+returns-2 c = simp (sym (c .before .is-preferred .ensures) ∙ c .if1 .left)
+
+pub preferred-spec : {M : Type 1} → statement M
+preferred-spec = tie.close (tie.spec is-preferred-requires returns returns-2)

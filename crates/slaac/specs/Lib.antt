@@ -1,0 +1,4 @@
+pub mod Answers
+pub mod SlaacRules
+pub mod SyncRules
+pub mod PollRules
