@@ -1,3 +1,4 @@
 pub mod SyncLaws
 pub mod PollLaws
 pub mod AdvertLaws
+pub mod Examples

@@ -118,10 +118,10 @@ module _ (s : Slaac) (t : IfaceAddrs) (r : Routes) (iface : ℕ) (hw : HardwareA
 
 -- The poll
 
-on-yes : {A : Type 0} (b : Bool) (x y p : A) → b ≡ true → p ≡ x → p ≡ cond b x y
+pub on-yes : {A : Type 0} (b : Bool) (x y p : A) → b ≡ true → p ≡ x → p ≡ cond b x y
 on-yes b x y p e f = simp e f
 
-on-no : {A : Type 0} (b : Bool) (x y p : A) → b ≡ false → p ≡ y → p ≡ cond b x y
+pub on-no : {A : Type 0} (b : Bool) (x y p : A) → b ≡ false → p ≡ y → p ≡ cond b x y
 on-no b x y p e f = simp e f
 
 module _ (s : Slaac) (t : IfaceAddrs) (r : Routes) (iface : ℕ) (up : Bool) (hw : HardwareAddress) (buf : List ℕ) (k : Clock) where

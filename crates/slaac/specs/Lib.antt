@@ -2,3 +2,4 @@ pub mod Answers
 pub mod SlaacRules
 pub mod SyncRules
 pub mod PollRules
+pub mod Examples
