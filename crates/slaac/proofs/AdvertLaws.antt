@@ -1,19 +1,24 @@
 -- Laws of the advertisement.
 use Prim.Native.Nat.{ℕ, _/_, _^_}
 use borrow.Author.Tests.{eqb-true, ne-eqb}
-use native.Mathlib.Omega.{arith}
+use denote.Enum.Declared.{tagOf}
 use mathlib.Core.Bool.{Bool, true, false, cond, not}
 use mathlib.Core.List.{List, [], _∷_}
+use mathlib.Core.Logic.{_⊎_, inl, inr}
 use mathlib.Core.Path.{_≡_, refl, ap, sym, _∙_}
+use native.Mathlib.Omega.{arith}
 use Rattle.learned.specs.LearnedRules.{processPrefix, processRouter, storeFlags}
 use Rattle.learned.specs.declared.Slaac.{Slaac}
-use Rattle.ndisc.specs.OptionWalk.{optionsOf, walked, malformedOption, stopped}
+use Rattle.ndisc.proofs.Walks.{end-goes, malformed-goes}
+use Rattle.ndisc.specs.OptionWalk.{nextOf, optionsOf, walked, malformedOption, stopped}
 use Rattle.ndisc.specs.Rfc4861Messages.{notAdvertisement, advertCheck, advertBy as headerBy, routerAdvertAt}
 use Rattle.ndisc.specs.declared.ndisc.Advert.the-variants.{Refused as NoAdvert, Header}
 use Rattle.ndisc.specs.declared.ndisc.Advert.{Advert}
 use Rattle.ndisc.specs.declared.ndisc.RouterAdvert.{RouterAdvert}
 use Rattle.ndisc.specs.declared.ndiscoption.NdiscOption.the-variants.{SourceLinkLayerAddr, TargetLinkLayerAddr, PrefixInformation as Prefix, RedirectedHeader, Mtu, Unknown}
 use Rattle.ndisc.specs.declared.ndiscoption.NdiscOption.{NdiscOption}
+use Rattle.ndisc.specs.declared.ndiscoption.Next.the-variants.{End, Malformed as Malformed′, Option}
+use Rattle.ndisc.specs.declared.ndiscoption.Next.{Next}
 use Rattle.ndisc.specs.declared.ndiscoption.Walk.the-variants.{Clean, MalformedAt}
 use Rattle.neighbor.specs.CacheCalls.{entries, key, fillCheck, changeBy, fillTo}
 use Rattle.neighbor.specs.NeighborRules.{insertState}
@@ -22,7 +27,7 @@ use Rattle.neighbor.specs.declared.NeighborCache.{NeighborCache}
 use Rattle.neighbor.specs.declared.State.the-variants.{Reachable}
 use Rattle.slaac.proofs.PollLaws.{on-yes, on-no}
 use Rattle.slaac.specs.Answers.{advertNumber, callCheck, numberAround}
-use Rattle.slaac.specs.SlaacRules.{notLinkLocal, messageCheck, optionsIn, prefixOptions, step2, step3, step4, counts, lastSource, taughtBy, filledBy, step5, advertised, learned, advertBy, callBy, AdvertisedTo}
+use Rattle.slaac.specs.SlaacRules.{notLinkLocal, messageCheck, optionsIn, step2, step3, step4, counts, lastSource, taughtBy, filledBy, step5, advertised, learned, advertBy, callBy, AdvertisedTo}
 use Rattle.slaac.specs.declared.AdvertAnswer.the-variants.{Refused, Off, Done}
 use Rattle.slaac.specs.declared.Advertised.{Advertised}
 use Rattle.slaac.specs.declared.LinkLayerAddr.the-variants.{Nothing, Is}
@@ -41,6 +46,7 @@ use Rattle.wire.specs.declared.error.Refusal.the-variants.{Malformed, NotUnicas
 use Rattle.wire.specs.declared.error.Refusal.{Refusal}
 use Rattle.wire.specs.declared.ethernet.HardwareAddress.{HardwareAddress}
 use Rattle.wire.specs.declared.ipv6.Ipv6Addr.{Ipv6Addr}
+use Rattle.ndisc.proofs.ndiscoption.Next as Next′
 
 -- The second pass
 
@@ -89,11 +95,24 @@ module _ {now : Instant} {msg : List ℕ} {s₀ s : Slaac} {l : LinkLayerAddr} {
             ∙ (ap (λ (z : List NdiscOption). foldOver counts l z) (sym e) ∙ inv .source);
       }
 
+  -- the same, for an option that was taken apart
+  pub teach-by : (o k : NdiscOption) (next : ℕ) (s′ : Slaac) (l′ : LinkLayerAddr) → optionsOf msg at ≡ o ∷ optionsOf msg next → o ≡ k
+      → s′ ≡ learnOption now s k → l′ ≡ counts l k → Teaching now msg s₀ s′ l′ next
+  teach-by o k next s′ l′ e q f g =
+      teach-on o next s′ l′ e (f ∙ ap (λ (x : NdiscOption). learnOption now s x) (sym q)) (g ∙ ap (λ (x : NdiscOption). counts l x) (sym q))
+
   pub taught : optionsOf msg at ≡ [] → _≡_ {A = Taught} (record { slaac = s; lladdr = l }) (taughtBy now s₀ (optionsOf msg 16))
   taught e =
       let a : s ≡ step2 now s₀ (optionsOf msg 16) = no-more now s ∙ (ap (λ (z : List NdiscOption). step2 now s z) (sym e) ∙ inv .prefixes) in
       let b : l ≡ lastSource (optionsOf msg 16) = ap (λ (z : List NdiscOption). foldOver counts l z) (sym e) ∙ inv .source in
       λ i. record { slaac = a i; lladdr = b i }
+
+-- the pass ends where no option stands
+pub stops : (msg : List ℕ) (at : ℕ) (r : Next) → r ≡ nextOf msg at → (tagOf Next′.the-type r ≡ 0) ⊎ (tagOf Next′.the-type r ≡ 1) → optionsOf msg at ≡ []
+stops msg at End e h = end-goes msg at (sym e) .1
+stops msg at Malformed′ e h = malformed-goes msg at (sym e) .1
+stops msg at (Option o n) e (inl z) = absurd (omega arith)
+stops msg at (Option o n) e (inr z) = absurd (omega arith)
 
 -- The checks of the message
 

@@ -10,16 +10,16 @@ use Rattle.iface.specs.declared.addr.IfaceAddrs.{IfaceAddrs}
 use Rattle.iface.specs.declared.addr.Source.the-variants.{Nothing, From}
 use Rattle.iface.specs.declared.addr.Source.{Source}
 use Rattle.iface.specs.declared.route.Routes.{Routes}
-use Rattle.learned.specs.DiscoveryRules.{solicitation, withDiscovery}
+use Rattle.learned.specs.DiscoveryRules.{solicitation}
 use Rattle.learned.specs.ExpiryRules.{syncDue, leaveExpired}
 use Rattle.learned.specs.declared.Discovery.{Discovery}
 use Rattle.learned.specs.declared.Slaac.{Slaac}
 use Rattle.learned.specs.declared.Solicitation.{Solicitation}
-use Rattle.ndisc.specs.Rfc4861Messages.{solicitedOf, solicitIn, Solicits}
+use Rattle.ndisc.specs.Rfc4861Messages.{Solicits}
 use Rattle.ndisc.specs.declared.ndisc.Solicited.the-variants.{NoRoom as NoPlace, Written}
 use Rattle.ndisc.specs.declared.ndisc.Solicited.{Solicited as Wrote}
 use Rattle.slaac.specs.Answers.{pollNumber, callCheck}
-use Rattle.slaac.specs.PollRules.{senderOf, solicitFrom, answerOf, turnBy, bufferBy, turnOf, bufferOf, TurnTo, polled, synced, syncTurn, afterTurn, senderIn, pollOn, pollBy, pollBuffer, PolledTo}
+use Rattle.slaac.specs.PollRules.{senderOf, solicitFrom, answerOf, turnBy, bufferBy, turnOf, bufferOf, TurnTo, polled, syncTurn, afterTurn, senderIn, pollOn, pollBy, pollBuffer, PolledTo}
 use Rattle.slaac.specs.SyncRules.{syncAddrs, syncRoutes}
 use Rattle.slaac.specs.declared.PollAnswer.the-variants.{Refused, Off, Quiet, Solicited, NoRoom}
 use Rattle.slaac.specs.declared.PollAnswer.{PollAnswer}

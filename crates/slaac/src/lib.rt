@@ -1,6 +1,5 @@
 // IPv6 stateless address autoconfiguration (SLAAC) of an interface. Router solicitations go out, and from the router
 // advertisements that arrive addresses are formed and default routes installed. Both expire with the lifetimes advertised.
-
 mod sync;
 
 ghost use mathlib.Core.Path.{_≡_};
@@ -79,3 +78,237 @@ pub struct Taught {
     pub lladdr: LinkLayerAddr,
 }
 
+// The checks of an advertisement: its header, its source, and every option, before anything changes.
+fn check_advertisement(source: Ipv6Addr, msg: &[u8]) -> Advert
+    ensures { λ r. ⌜ r ≡ advertBy (messageCheck source (now (msg .entry))) (now (msg .entry)) ⌝ }
+{
+    match ndisc::ndisc::router_advert(msg) {
+        Advert::Refused(why) => Advert::Refused(why),
+        Advert::Header(header) => {
+            if source.is_link_local() {
+                match ndisc::ndiscoption::check_options(msg, 16) {
+                    Walk::Clean => Advert::Header(header),
+                    Walk::MalformedAt(_) => Advert::Refused(Refusal::Malformed),
+                }
+            } else {
+                Advert::Refused(Refusal::NotLinkLocal)
+            }
+        }
+    }
+}
+
+// Second pass over the options: every prefix information option is fed to SLAAC, and the last source link-layer address
+// is picked up.
+fn learn_options(slaac: Slaac, msg: &[u8], timestamp: Instant) -> Taught
+    ensures { λ r. ⌜ r ≡ taughtBy timestamp slaac (optionsOf (now (msg .entry)) 16) ⌝ }
+{
+    let mut s = slaac;
+    let mut lladdr = LinkLayerAddr::Nothing;
+    let mut at = 16;
+    loop {
+        let Next::Option { option, next } = ndisc::ndiscoption::next_option(msg, at) else {
+            break;
+        };
+        at = next;
+        match option {
+            NdiscOption::SourceLinkLayerAddr(h) => {
+                lladdr = LinkLayerAddr::Is(h);
+            }
+            NdiscOption::TargetLinkLayerAddr(_) => {}
+            NdiscOption::PrefixInformation(p) => {
+                s = s.process_prefix(p, timestamp);
+            }
+            NdiscOption::RedirectedHeader => {}
+            NdiscOption::Mtu(_) => {}
+            NdiscOption::Unknown(_) => {}
+        }
+    }
+    Taught {
+        slaac: s,
+        lladdr: lladdr,
+    }
+}
+
+// A router advertisement arrives.
+pub fn process_advertisement(
+    slaac: Slaac,
+    cache: NeighborCache,
+    iface: u8,
+    source: Ipv6Addr,
+    msg: &[u8],
+    timestamp: Instant,
+) -> Advertised
+    ensures { λ r. ⌜ AdvertisedTo slaac cache iface source (now (msg .entry)) timestamp r ⌝ }
+{
+    if let Check::Refused(why) = wire::error::check_time(timestamp, iface) {
+        return Advertised {
+            slaac: slaac,
+            cache: cache,
+            answer: AdvertAnswer::Refused(why),
+        };
+    }
+    if !slaac.on {
+        return Advertised {
+            slaac: slaac,
+            cache: cache,
+            answer: AdvertAnswer::Off,
+        };
+    }
+    match check_advertisement(source, msg) {
+        Advert::Refused(why) => Advertised {
+            slaac: slaac,
+            cache: cache,
+            answer: AdvertAnswer::Refused(why),
+        },
+        Advert::Header(header) => {
+            let t = learn_options(slaac, msg, timestamp);
+            let s = t.slaac;
+            let lifetime = Duration::from_secs(header.router_lifetime as u32);
+            let r = s.process_router(source, lifetime, timestamp);
+            let f = r.store_flags(header.managed, header.other_config);
+            let l = t.lladdr;
+            let LinkLayerAddr::Is(lladdr) = l else {
+                return Advertised {
+                    slaac: f,
+                    cache: cache,
+                    answer: AdvertAnswer::Done,
+                };
+            };
+            if lladdr.is_unicast() {
+                let n = cache.fill(iface, source, lladdr, timestamp);
+                let c = n.cache;
+                return Advertised {
+                    slaac: f,
+                    cache: c,
+                    answer: AdvertAnswer::Done,
+                };
+            }
+            Advertised {
+                slaac: f,
+                cache: cache,
+                answer: AdvertAnswer::Done,
+            }
+        }
+    }
+}
+
+// Emit a router solicitation when discovery requires one. It waits for the link to be up and for a link-local address to be sent
+// from, since a reply to `::` must be multicast and the router cannot learn our link-layer address. While it waits, its timer
+// does not count toward the deadline.
+fn ndisc_rs_egress(
+    discovery: Discovery,
+    up: bool,
+    source: Source,
+    hardware_addr: HardwareAddress,
+    buf: &mut [u8],
+    clock: Clock,
+) -> Turn
+    ensures { λ r. ⌜ TurnTo discovery (senderOf up source) «hardware_addr» (now (buf .entry)) clock r (now (buf .exit)) ⌝ }
+{
+    if !up {
+        return Turn {
+            discovery: discovery,
+            clock: clock,
+            answer: PollAnswer::Quiet,
+        };
+    }
+    let Source::From(src_addr) = source else {
+        return Turn {
+            discovery: discovery,
+            clock: clock,
+            answer: PollAnswer::Quiet,
+        };
+    };
+    let s = discovery.solicit(clock);
+    let d = s.discovery;
+    let k = s.clock;
+    if s.due {
+        // Without room it counts as sent too: the retry timer sends the next one.
+        match ndisc::ndisc::write_solicit(buf, src_addr, hardware_addr) {
+            Solicited::NoRoom => {
+                return Turn {
+                    discovery: d,
+                    clock: k,
+                    answer: PollAnswer::NoRoom,
+                };
+            }
+            Solicited::Written => {
+                return Turn {
+                    discovery: d,
+                    clock: k,
+                    answer: PollAnswer::Solicited,
+                };
+            }
+        }
+    }
+    Turn {
+        discovery: d,
+        clock: k,
+        answer: PollAnswer::Quiet,
+    }
+}
+
+// Run SLAAC: solicit routers when due, and apply what the advertisements taught to the interface's addresses and routes.
+pub fn poll_at(
+    slaac: Slaac,
+    addrs: IfaceAddrs,
+    routes: Routes,
+    iface: u8,
+    up: bool,
+    hardware_addr: HardwareAddress,
+    buf: &mut [u8],
+    clock: Clock,
+) -> Polled
+    ensures { λ r. ⌜ PolledTo slaac addrs routes iface up «hardware_addr» (now (buf .entry)) clock r (now (buf .exit)) ⌝ }
+{
+    let timestamp = clock.now;
+    if let Check::Refused(why) = wire::error::check_time(timestamp, iface) {
+        return Polled {
+            slaac: slaac,
+            addrs: addrs,
+            routes: routes,
+            clock: clock,
+            answer: PollAnswer::Refused(why),
+        };
+    }
+    if !slaac.on {
+        return Polled {
+            slaac: slaac,
+            addrs: addrs,
+            routes: routes,
+            clock: clock,
+            answer: PollAnswer::Off,
+        };
+    }
+    let source = addrs.link_local_ipv6_address();
+    let d = slaac.discovery;
+    let t = ndisc_rs_egress(d, up, source, hardware_addr, buf, clock);
+    let e = t.discovery;
+    let w = t.answer;
+    let mut s = slaac;
+    s.discovery = e;
+    let k = t.clock;
+    let x = s.is_sync_due(k);
+    let c = x.clock;
+    if x.expired {
+        // Addresses come and go without touching the neighbours: the router that advertised the prefix has just been
+        // entered there.
+        let a2 = sync::sync_addrs(addrs, s, hardware_addr, timestamp);
+        let r2 = sync::sync_routes(routes, s, iface, timestamp);
+        let s2 = s.update_slaac_state(timestamp);
+        return Polled {
+            slaac: s2,
+            addrs: a2,
+            routes: r2,
+            clock: c,
+            answer: w,
+        };
+    }
+    Polled {
+        slaac: s,
+        addrs: addrs,
+        routes: routes,
+        clock: c,
+        answer: w,
+    }
+}

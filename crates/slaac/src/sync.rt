@@ -23,7 +23,12 @@ fn preferred(prefix: Prefix, now: Instant) -> Preferred
 
 // Every valid prefix gets its address, and the address of every expired prefix goes, if SLAAC installed it. A refreshed
 // address follows the preferred lifetime, which a router shortens to retire its prefix.
-pub fn sync_addrs(addrs: IfaceAddrs, slaac: Slaac, hardware_addr: HardwareAddress, now: Instant) -> IfaceAddrs
+pub fn sync_addrs(
+    addrs: IfaceAddrs,
+    slaac: Slaac,
+    hardware_addr: HardwareAddress,
+    now: Instant,
+) -> IfaceAddrs
     ensures { λ r. ⌜ r ≡ syncAddrs «hardware_addr» now addrs slaac ⌝ }
 {
     let k = learned::count_of(slaac.prefix_count, 4);

@@ -2,9 +2,6 @@ use borrow.Author.Needs.{needs}
 use mathlib.Core.Path.{sym, _∙_}
 use Rattle.slaac.proofs.sync.preferred.Statement.{statement}
 use Rattle.slaac.proofs.sync.preferred.Tie as tie
-use Rattle.slaac.proofs.sync.preferred.Reads as reads
-use Rattle.slaac.proofs.sync.preferred.Lts as lts
-use Rattle.learned.proofs.Prefix.is_preferred.Reads as is-preferred-reads
 
 is-preferred-requires : tie.Need-is-preferred-requires
 is-preferred-requires c κs = search needs

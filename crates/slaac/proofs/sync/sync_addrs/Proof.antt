@@ -4,19 +4,11 @@ use lib.ListN.{length}
 use mathlib.Core.Path.{_≡_, sym, _∙_}
 use native.Mathlib.Omega.{arith}
 use Rattle.learned.specs.LearnedRules.{noPrefix}
-use Rattle.slaac.specs.SyncRules.{syncPrefix, syncAddrs}
 use Rattle.slaac.proofs.SyncLaws.{sync-nothing, sync-put, sync-drop}
+use Rattle.slaac.specs.SyncRules.{syncPrefix, syncAddrs}
 use Rattle.table.proofs.Laws.{mapped, Folding, folding, fold-next, folded}
 use Rattle.slaac.proofs.sync.sync_addrs.Statement.{statement}
 use Rattle.slaac.proofs.sync.sync_addrs.Tie as tie
-use Rattle.slaac.proofs.sync.sync_addrs.Reads as reads
-use Rattle.slaac.proofs.sync.sync_addrs.Lts as lts
-use Rattle.iface.proofs.addr.IfaceAddrs.drop_addr.Reads as drop-addr-reads
-use Rattle.iface.proofs.addr.IfaceAddrs.put_addr.Reads as put-addr-reads
-use Rattle.learned.proofs.Prefix.is_valid.Reads as is-valid-reads
-use Rattle.learned.proofs.count_of.Reads as count-of-reads
-use Rattle.slaac.proofs.sync.preferred.Reads as preferred-reads
-use Rattle.wire.proofs.ipv6.Ipv6Cidr.from_link_prefix.Reads as from-link-prefix-reads
 
 abbrev Inv-loop : tie.InvT-loop
 Inv-loop hardware-addr now slaac k t₀ i₀ t i = Folding 4 (syncPrefix hardware-addr now) t₀ (slaac .prefixes) (slaac .«prefix_count») k i t

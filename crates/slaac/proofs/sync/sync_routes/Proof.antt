@@ -4,17 +4,11 @@ use lib.ListN.{length}
 use mathlib.Core.Path.{_≡_, sym, _∙_}
 use native.Mathlib.Omega.{arith}
 use Rattle.learned.specs.LearnedRules.{noRouter}
-use Rattle.slaac.specs.SyncRules.{syncRouter, syncRoutes}
 use Rattle.slaac.proofs.SyncLaws.{route-put, route-drop}
+use Rattle.slaac.specs.SyncRules.{syncRouter, syncRoutes}
 use Rattle.table.proofs.Laws.{mapped, Folding, folding, fold-next, folded}
 use Rattle.slaac.proofs.sync.sync_routes.Statement.{statement}
 use Rattle.slaac.proofs.sync.sync_routes.Tie as tie
-use Rattle.slaac.proofs.sync.sync_routes.Reads as reads
-use Rattle.slaac.proofs.sync.sync_routes.Lts as lts
-use Rattle.iface.proofs.route.Routes.drop_route.Reads as drop-route-reads
-use Rattle.iface.proofs.route.Routes.put_route.Reads as put-route-reads
-use Rattle.learned.proofs.Router.is_valid.Reads as is-valid-reads
-use Rattle.learned.proofs.count_of.Reads as count-of-reads
 
 abbrev Inv-loop : tie.InvT-loop
 Inv-loop iface now slaac k t₀ i₀ t i = Folding 2 (syncRouter iface now) t₀ (slaac .routers) (slaac .«router_count») k i t
