@@ -1,11 +1,12 @@
 // What router advertisements teach an interface: prefixes, routers, flags, and the phase of router discovery.
 ghost use mathlib.Core.Path.{_≡_};
 ghost use mathlib.Core.Bool.{true, false, not};
-ghost use Prim.Native.Nat.{_<_, min};
+ghost use Prim.Native.Nat.{_<_};
 ghost use Rattle.learned.specs.LearnedRules.{isSkipped, prefixOf, addPrefix, expirePrefix, processPrefix, addRouter, expireRouter, processRouter, heard, storeFlags, prefixAt, routerAt};
 ghost use Rattle.learned.specs.DiscoveryRules.{due, sent, solicitation, fresh, RestartedTo, TurnedOnTo};
 ghost use Rattle.learned.specs.ExpiryRules.{isValid, askAlso, syncDue, leaveExpired};
 use ndisc::ndiscoption::PrefixInformation;
+use table::count_of;
 use time::Answer;
 use time::Clock;
 use time::Duration;
@@ -92,13 +93,6 @@ pub struct Solicitation {
     pub due: bool,
     pub discovery: Discovery,
     pub clock: Clock,
-}
-
-// A count above the size reads as the size.
-pub fn count_of(len: usize, size: usize) -> usize
-    ensures { λ r. ⌜ r ≡ min len size ⌝ }
-{
-    if len < size { len } else { size }
 }
 
 // Check a, b and c of RFC 4862, 5.5.3. Multicast prefixes and lengths above 128 are skipped too.

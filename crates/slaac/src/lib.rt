@@ -6,7 +6,7 @@ ghost use mathlib.Core.Path.{_≡_};
 ghost use Rattle.ndisc.specs.OptionWalk.{optionsOf};
 ghost use Rattle.ndisc.specs.Rfc4861Messages.{advertBy};
 ghost use Rattle.slaac.specs.SlaacRules.{messageCheck, taughtBy, AdvertisedTo};
-ghost use Rattle.slaac.specs.PollRules.{senderOf, TurnTo, PolledTo};
+ghost use Rattle.slaac.specs.PollRules.{senderOf, TurnTo, PolledTo, PolledBy};
 use iface::addr::IfaceAddrs;
 use iface::addr::Source;
 use iface::route::Routes;
@@ -62,6 +62,14 @@ pub struct Polled {
     pub addrs: IfaceAddrs,
     pub routes: Routes,
     pub clock: Clock,
+    pub answer: PollAnswer,
+}
+
+// The same without the clock.
+pub struct PollResult {
+    pub slaac: Slaac,
+    pub addrs: IfaceAddrs,
+    pub routes: Routes,
     pub answer: PollAnswer,
 }
 
@@ -309,6 +317,33 @@ pub fn poll_at(
         addrs: addrs,
         routes: routes,
         clock: c,
+        answer: w,
+    }
+}
+
+// The same with the clock lent.
+pub fn poll(
+    slaac: Slaac,
+    addrs: IfaceAddrs,
+    routes: Routes,
+    iface: u8,
+    up: bool,
+    hardware_addr: HardwareAddress,
+    buf: &mut [u8],
+    clock: &mut Clock,
+) -> PollResult
+    ensures { λ r. ⌜ PolledBy slaac addrs routes iface up «hardware_addr» (now (buf .entry)) (now (clock .entry)) r (now (buf .exit)) (now (clock .exit)) ⌝ }
+{
+    let p = poll_at(slaac, addrs, routes, iface, up, hardware_addr, buf, *clock);
+    *clock = p.clock;
+    let s = p.slaac;
+    let a = p.addrs;
+    let r = p.routes;
+    let w = p.answer;
+    PollResult {
+        slaac: s,
+        addrs: a,
+        routes: r,
         answer: w,
     }
 }

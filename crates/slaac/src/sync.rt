@@ -6,6 +6,7 @@ use iface::addr::Preferred;
 use iface::route::Routes;
 use learned::Prefix;
 use learned::Slaac;
+use table::count_of;
 use time::Instant;
 use wire::ethernet::HardwareAddress;
 use wire::ipv6::Formed;
@@ -31,7 +32,7 @@ pub fn sync_addrs(
 ) -> IfaceAddrs
     ensures { λ r. ⌜ r ≡ syncAddrs «hardware_addr» now addrs slaac ⌝ }
 {
-    let k = learned::count_of(slaac.prefix_count, 4);
+    let k = count_of(slaac.prefix_count, 4);
     let mut t = addrs;
     let mut i = 0;
     while i < k {
@@ -55,7 +56,7 @@ pub fn sync_addrs(
 pub fn sync_routes(routes: Routes, slaac: Slaac, iface: u8, now: Instant) -> Routes
     ensures { λ r. ⌜ r ≡ syncRoutes iface now routes slaac ⌝ }
 {
-    let k = learned::count_of(slaac.router_count, 2);
+    let k = count_of(slaac.router_count, 2);
     let mut t = routes;
     let mut i = 0;
     while i < k {

@@ -29,10 +29,10 @@ returns : tie.Need-returns
 returns c = header-refused (c .before .before .before .before .before .args .source) (c .before .before .before .before .before .args .msg .now) _ (c .before .before .before .router-advert .ensures .is) _ (c .before .why .given .1)
 
 returns-2 : tie.Need-returns-2
-returns-2 c = header-clean (c .before .before .before .before .before .before .before .before .before .before .args .source) (c .before .before .before .before .before .before .before .before .before .before .args .msg .now) _ (c .before .before .before .before .before .before .before .before .router-advert .ensures .is) _ (c .before .before .before .before .before .before .header .given .1) (sym (c .before .before .before .before .is-link-local .ensures) ∙ c .before .before .before .if1 .taken) (sym (c .before .before .check-options .ensures) ∙ c .enum-told .given .1)
+returns-2 c = header-clean (c .before .before .before .before .before .before .before .before .before .before .args .source) (c .before .before .before .before .before .before .before .before .before .before .args .msg .now) _ (c .before .before .before .before .before .before .before .before .router-advert .ensures .is) _ (c .before .before .before .before .before .before .header .given .1) (sym (c .before .before .before .before .is-link-local .ensures) ∙ c .before .before .before .if1 .taken) (sym (c .before .before .check-options .ensures .is) ∙ c .enum-told .given .1)
 
 returns-3 : tie.Need-returns-3
-returns-3 c = header-malformed (c .before .before .before .before .before .before .before .before .before .before .args .source) (c .before .before .before .before .before .before .before .before .before .before .args .msg .now) _ (c .before .before .before .before .before .before .before .before .router-advert .ensures .is) _ (c .before .before .before .before .before .before .header .given .1) (sym (c .before .before .before .before .is-link-local .ensures) ∙ c .before .before .before .if1 .taken) _ (sym (c .before .before .check-options .ensures) ∙ c .enum-told2 .given .1)
+returns-3 c = header-malformed (c .before .before .before .before .before .before .before .before .before .before .args .source) (c .before .before .before .before .before .before .before .before .before .before .args .msg .now) _ (c .before .before .before .before .before .before .before .before .router-advert .ensures .is) _ (c .before .before .before .before .before .before .header .given .1) (sym (c .before .before .before .before .is-link-local .ensures) ∙ c .before .before .before .if1 .taken) _ (sym (c .before .before .check-options .ensures .is) ∙ c .enum-told2 .given .1)
 
 returns-4 : tie.Need-returns-4
 returns-4 c = header-abroad (c .before .before .before .before .before .before .before .args .source) (c .before .before .before .before .before .before .before .args .msg .now) _ (c .before .before .before .before .before .router-advert .ensures .is) _ (c .before .before .before .header .given .1) (sym (c .before .is-link-local .ensures) ∙ c .if1 .left)

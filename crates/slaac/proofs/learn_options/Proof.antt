@@ -27,20 +27,20 @@ enum-known-option-2 : tie.Need-enum-known-option-2 Inv-loop μ-loop
 enum-known-option-2 c = search needs
 
 loop-less : tie.Need-loop-less Inv-loop μ-loop
-loop-less c = let w = option-goes (c .before .before .before .before .before .before .before .before .before .args .msg .now) (c .before .before .before .before .before .before .before .loop .at) _ _ (sym (c .before .before .before .before .before .before .next-option .ensures) ∙ c .before .before .before .before .option .given .1) in omega (arith, w .here, w .further)
+loop-less c = let w = option-goes (c .before .before .before .before .before .before .before .before .before .args .msg .now) (c .before .before .before .before .before .before .before .loop .at) _ _ (sym (c .before .before .before .before .before .before .next-option .ensures .is) ∙ c .before .before .before .before .option .given .1) in omega (arith, w .here, w .further)
 
 loop-again : tie.Need-loop-again Inv-loop μ-loop
-loop-again c = let w = option-goes (c .before .before .before .before .before .before .before .before .before .args .msg .now) (c .before .before .before .before .before .before .before .loop .at) _ _ (sym (c .before .before .before .before .before .before .next-option .ensures) ∙ c .before .before .before .before .option .given .1) in
+loop-again c = let w = option-goes (c .before .before .before .before .before .before .before .before .before .args .msg .now) (c .before .before .before .before .before .before .before .loop .at) _ _ (sym (c .before .before .before .before .before .before .next-option .ensures .is) ∙ c .before .before .before .before .option .given .1) in
     teach-by (c .before .before .before .before .before .before .before .loop .inv) _ _ _ _ _ (w .options-on) (c .before .option2 .given .1) refl refl
 
 enum-told : tie.Need-enum-told Inv-loop μ-loop
 enum-told c = search needs
 
 loop-less-2 : tie.Need-loop-less-2 Inv-loop μ-loop
-loop-less-2 c = let w = option-goes (c .before .before .before .before .before .before .before .before .args .msg .now) (c .before .before .before .before .before .before .loop .at) _ _ (sym (c .before .before .before .before .before .next-option .ensures) ∙ c .before .before .before .option .given .1) in omega (arith, w .here, w .further)
+loop-less-2 c = let w = option-goes (c .before .before .before .before .before .before .before .before .args .msg .now) (c .before .before .before .before .before .before .loop .at) _ _ (sym (c .before .before .before .before .before .next-option .ensures .is) ∙ c .before .before .before .option .given .1) in omega (arith, w .here, w .further)
 
 loop-again-2 : tie.Need-loop-again-2 Inv-loop μ-loop
-loop-again-2 c = let w = option-goes (c .before .before .before .before .before .before .before .before .args .msg .now) (c .before .before .before .before .before .before .loop .at) _ _ (sym (c .before .before .before .before .before .next-option .ensures) ∙ c .before .before .before .option .given .1) in
+loop-again-2 c = let w = option-goes (c .before .before .before .before .before .before .before .before .args .msg .now) (c .before .before .before .before .before .before .loop .at) _ _ (sym (c .before .before .before .before .before .next-option .ensures .is) ∙ c .before .before .before .option .given .1) in
     teach-by (c .before .before .before .before .before .before .loop .inv) _ _ _ _ _ (w .options-on) (c .enum-told .given .1) refl refl
 
 enum-known-option-3 : tie.Need-enum-known-option-3 Inv-loop μ-loop
@@ -50,44 +50,44 @@ process-prefix-requires : tie.Need-process-prefix-requires Inv-loop μ-loop
 process-prefix-requires c κs = search needs
 
 loop-less-3 : tie.Need-loop-less-3 Inv-loop μ-loop
-loop-less-3 c = let w = option-goes (c .before .before .before .before .before .before .before .before .before .before .args .msg .now) (c .before .before .before .before .before .before .before .before .loop .at) _ _ (sym (c .before .before .before .before .before .before .before .next-option .ensures) ∙ c .before .before .before .before .before .option .given .1) in omega (arith, w .here, w .further)
+loop-less-3 c = let w = option-goes (c .before .before .before .before .before .before .before .before .before .before .args .msg .now) (c .before .before .before .before .before .before .before .before .loop .at) _ _ (sym (c .before .before .before .before .before .before .before .next-option .ensures .is) ∙ c .before .before .before .before .before .option .given .1) in omega (arith, w .here, w .further)
 
 loop-again-3 : tie.Need-loop-again-3 Inv-loop μ-loop
-loop-again-3 c = let w = option-goes (c .before .before .before .before .before .before .before .before .before .before .args .msg .now) (c .before .before .before .before .before .before .before .before .loop .at) _ _ (sym (c .before .before .before .before .before .before .before .next-option .ensures) ∙ c .before .before .before .before .before .option .given .1) in
+loop-again-3 c = let w = option-goes (c .before .before .before .before .before .before .before .before .before .before .args .msg .now) (c .before .before .before .before .before .before .before .before .loop .at) _ _ (sym (c .before .before .before .before .before .before .before .next-option .ensures .is) ∙ c .before .before .before .before .before .option .given .1) in
     teach-by (c .before .before .before .before .before .before .before .before .loop .inv) _ _ _ _ _ (w .options-on) (c .before .before .option3 .given .1) (c .process-prefix .ensures) refl
 
 enum-told-2 : tie.Need-enum-told-2 Inv-loop μ-loop
 enum-told-2 c = search needs
 
 loop-less-4 : tie.Need-loop-less-4 Inv-loop μ-loop
-loop-less-4 c = let w = option-goes (c .before .before .before .before .before .before .before .before .args .msg .now) (c .before .before .before .before .before .before .loop .at) _ _ (sym (c .before .before .before .before .before .next-option .ensures) ∙ c .before .before .before .option .given .1) in omega (arith, w .here, w .further)
+loop-less-4 c = let w = option-goes (c .before .before .before .before .before .before .before .before .args .msg .now) (c .before .before .before .before .before .before .loop .at) _ _ (sym (c .before .before .before .before .before .next-option .ensures .is) ∙ c .before .before .before .option .given .1) in omega (arith, w .here, w .further)
 
 loop-again-4 : tie.Need-loop-again-4 Inv-loop μ-loop
-loop-again-4 c = let w = option-goes (c .before .before .before .before .before .before .before .before .args .msg .now) (c .before .before .before .before .before .before .loop .at) _ _ (sym (c .before .before .before .before .before .next-option .ensures) ∙ c .before .before .before .option .given .1) in
+loop-again-4 c = let w = option-goes (c .before .before .before .before .before .before .before .before .args .msg .now) (c .before .before .before .before .before .before .loop .at) _ _ (sym (c .before .before .before .before .before .next-option .ensures .is) ∙ c .before .before .before .option .given .1) in
     teach-by (c .before .before .before .before .before .before .loop .inv) _ _ _ _ _ (w .options-on) (c .enum-told2 .given .1) refl refl
 
 enum-told-3 : tie.Need-enum-told-3 Inv-loop μ-loop
 enum-told-3 c = search needs
 
 loop-less-5 : tie.Need-loop-less-5 Inv-loop μ-loop
-loop-less-5 c = let w = option-goes (c .before .before .before .before .before .before .before .before .args .msg .now) (c .before .before .before .before .before .before .loop .at) _ _ (sym (c .before .before .before .before .before .next-option .ensures) ∙ c .before .before .before .option .given .1) in omega (arith, w .here, w .further)
+loop-less-5 c = let w = option-goes (c .before .before .before .before .before .before .before .before .args .msg .now) (c .before .before .before .before .before .before .loop .at) _ _ (sym (c .before .before .before .before .before .next-option .ensures .is) ∙ c .before .before .before .option .given .1) in omega (arith, w .here, w .further)
 
 loop-again-5 : tie.Need-loop-again-5 Inv-loop μ-loop
-loop-again-5 c = let w = option-goes (c .before .before .before .before .before .before .before .before .args .msg .now) (c .before .before .before .before .before .before .loop .at) _ _ (sym (c .before .before .before .before .before .next-option .ensures) ∙ c .before .before .before .option .given .1) in
+loop-again-5 c = let w = option-goes (c .before .before .before .before .before .before .before .before .args .msg .now) (c .before .before .before .before .before .before .loop .at) _ _ (sym (c .before .before .before .before .before .next-option .ensures .is) ∙ c .before .before .before .option .given .1) in
     teach-by (c .before .before .before .before .before .before .loop .inv) _ _ _ _ _ (w .options-on) (c .enum-told3 .given .1) refl refl
 
 enum-told-4 : tie.Need-enum-told-4 Inv-loop μ-loop
 enum-told-4 c = search needs
 
 loop-less-6 : tie.Need-loop-less-6 Inv-loop μ-loop
-loop-less-6 c = let w = option-goes (c .before .before .before .before .before .before .before .before .args .msg .now) (c .before .before .before .before .before .before .loop .at) _ _ (sym (c .before .before .before .before .before .next-option .ensures) ∙ c .before .before .before .option .given .1) in omega (arith, w .here, w .further)
+loop-less-6 c = let w = option-goes (c .before .before .before .before .before .before .before .before .args .msg .now) (c .before .before .before .before .before .before .loop .at) _ _ (sym (c .before .before .before .before .before .next-option .ensures .is) ∙ c .before .before .before .option .given .1) in omega (arith, w .here, w .further)
 
 loop-again-6 : tie.Need-loop-again-6 Inv-loop μ-loop
-loop-again-6 c = let w = option-goes (c .before .before .before .before .before .before .before .before .args .msg .now) (c .before .before .before .before .before .before .loop .at) _ _ (sym (c .before .before .before .before .before .next-option .ensures) ∙ c .before .before .before .option .given .1) in
+loop-again-6 c = let w = option-goes (c .before .before .before .before .before .before .before .before .args .msg .now) (c .before .before .before .before .before .before .loop .at) _ _ (sym (c .before .before .before .before .before .next-option .ensures .is) ∙ c .before .before .before .option .given .1) in
     teach-by (c .before .before .before .before .before .before .loop .inv) _ _ _ _ _ (w .options-on) (c .enum-told4 .given .1) refl refl
 
 returns : tie.Need-returns Inv-loop μ-loop
-returns c = taught (c .before .before .loop .inv) (stops (c .before .before .before .before .args .msg .now) (c .before .before .loop .at) _ (c .before .next-option .ensures) (c .match .keys2))
+returns c = taught (c .before .before .loop .inv) (stops (c .before .before .before .before .args .msg .now) (c .before .before .loop .at) _ (c .before .next-option .ensures .is) (c .match .keys2))
 
 pub learn-options-spec : {M : Type 1} → statement M
 learn-options-spec =
