@@ -19,11 +19,11 @@ use Rattle.ndisc.specs.Rfc4861Messages.{Solicits}
 use Rattle.ndisc.specs.declared.ndisc.Solicited.the-variants.{NoRoom as NoPlace, Written}
 use Rattle.ndisc.specs.declared.ndisc.Solicited.{Solicited as Wrote}
 use Rattle.slaac.specs.Answers.{pollNumber, callCheck}
-use Rattle.slaac.specs.PollRules.{senderOf, solicitFrom, answerOf, turnBy, bufferBy, turnOf, bufferOf, TurnTo, polled, syncTurn, afterTurn, senderIn, pollOn, pollBy, pollBuffer, PolledTo, resultOf, PolledBy}
+use Rattle.slaac.specs.PollRules.{senderOf, solicitFrom, answerOf, turnBy, bufferBy, turnOf, bufferOf, TurnTo, polled, syncTurn, afterTurn, senderIn, pollOn, pollBy, pollBuffer, PolledTo, PolledBy}
 use Rattle.slaac.specs.SyncRules.{syncAddrs, syncRoutes}
 use Rattle.slaac.specs.declared.PollAnswer.the-variants.{Refused, Off, Quiet, Solicited, NoRoom}
 use Rattle.slaac.specs.declared.PollAnswer.{PollAnswer}
-use Rattle.slaac.specs.declared.Polled.{Polled}
+use Rattle.slaac.specs.declared.PolledAt.{PolledAt}
 use Rattle.slaac.specs.declared.Turn.{Turn}
 use Rattle.time.specs.declared.Answer.{Answer}
 use Rattle.time.specs.declared.Clock.{Clock}
@@ -136,7 +136,7 @@ module _ (s : Slaac) (t : IfaceAddrs) (r : Routes) (iface : ℕ) (up : Bool) (hw
 
   module _ (e : callCheck (k .now) iface ≡ Fine) where
     -- by the checks, what is left of the promise
-    fine : (p : Polled) (buf′ : List ℕ) → p ≡ pollBy Fine s t r iface up hw buf k → pollNumber (p .answer) ≡ 0
+    fine : (p : PolledAt) (buf′ : List ℕ) → p ≡ pollBy Fine s t r iface up hw buf k → pollNumber (p .polled .answer) ≡ 0
         → buf′ ≡ pollBuffer Fine s t up hw buf k → PolledTo s t r iface up hw buf k p buf′
     fine p buf′ f n g =
         record {
@@ -160,8 +160,8 @@ module _ (s : Slaac) (t : IfaceAddrs) (r : Routes) (iface : ℕ) (up : Bool) (hw
         quiet true false = refl
         quiet false c = refl
 
-    pub poll-on : (source : Source) (u : Turn) (p : Polled) (buf′ : List ℕ) → s .on ≡ true → source ≡ firstLocal (addrsOf t)
-        → TurnTo (s .discovery) (senderOf up source) hw buf k u buf′ → p .answer ≡ u .answer → p ≡ afterTurn u s t r iface hw (k .now)
+    pub poll-on : (source : Source) (u : Turn) (p : PolledAt) (buf′ : List ℕ) → s .on ≡ true → source ≡ firstLocal (addrsOf t)
+        → TurnTo (s .discovery) (senderOf up source) hw buf k u buf′ → p .polled .answer ≡ u .answer → p ≡ afterTurn u s t r iface hw (k .now)
         → PolledTo s t r iface up hw buf k p buf′
     unfolding pollOn
     poll-on source u p buf′ o f w n g =
@@ -174,7 +174,7 @@ module _ (s : Slaac) (t : IfaceAddrs) (r : Routes) (iface : ℕ) (up : Bool) (hw
         (ap pollNumber n ∙ turn-number u (s .discovery) (senderOf up source) (w .is))
         (on-yes (s .on) (bufferOf (s .discovery) (senderIn up t) hw buf k) buf buf′ o left)
 
-pub polled-by : (s : Slaac) (t : IfaceAddrs) (r : Routes) (iface : ℕ) (up : Bool) (hw : HardwareAddress) (buf : List ℕ) (k : Clock) (p : Polled)
-    (buf′ : List ℕ) → PolledTo s t r iface up hw buf k p buf′ → PolledBy s t r iface up hw buf k (resultOf p) buf′ (p .clock)
+pub polled-by : (s : Slaac) (t : IfaceAddrs) (r : Routes) (iface : ℕ) (up : Bool) (hw : HardwareAddress) (buf : List ℕ) (k : Clock) (p : PolledAt)
+    (buf′ : List ℕ) → PolledTo s t r iface up hw buf k p buf′ → PolledBy s t r iface up hw buf k (p .polled) buf′ (p .clock)
 polled-by s t r iface up hw buf k p buf′ w =
-    record { is = ap resultOf (w .is); number = w .number; leaves = w .leaves; clock = ap (λ (x : Polled). x .clock) (w .is) }
+    record { is = ap (λ (x : PolledAt). x .polled) (w .is); number = w .number; leaves = w .leaves; clock = ap (λ (x : PolledAt). x .clock) (w .is) }

@@ -25,7 +25,7 @@ use Rattle.learned.specs.DiscoveryRules.{fresh, restarted}
 use Rattle.learned.specs.ExpiryRules.{leaveExpired}
 use Rattle.slaac.specs.declared.Advertised.{Advertised}
 use Rattle.slaac.specs.declared.AdvertAnswer.the-variants.{Done}
-use Rattle.slaac.specs.declared.Polled.{Polled}
+use Rattle.slaac.specs.declared.PolledAt.{PolledAt}
 use Rattle.slaac.specs.declared.PollAnswer.the-variants.{Quiet, Solicited}
 use Rattle.slaac.specs.Answers.{callCheck}
 use Rattle.slaac.specs.SlaacRules.{callBy}
@@ -98,16 +98,16 @@ buffer = replicate 16 0
 abbrev pub started : Slaac
 started = restarted (fresh true)
 
-abbrev pub firstPoll : Polled
+abbrev pub firstPoll : PolledAt
 firstPoll = pollBy (callCheck (at 0) 0) started ownAddrs emptyRoutes 0 true card buffer (idle (at 0))
 
 -- "500 ra"
 abbrev pub heardOnce : Advertised
-heardOnce = callBy (callCheck (at 500) 0) (firstPoll .slaac) empty 0 router message (at 500)
+heardOnce = callBy (callCheck (at 500) 0) (firstPoll .polled .slaac) empty 0 router message (at 500)
 
 -- "500 poll"
-abbrev pub lastPoll : Polled
-lastPoll = pollBy (callCheck (at 500) 0) (heardOnce .slaac) (firstPoll .addrs) (firstPoll .routes) 0 true card buffer (idle (at 500))
+abbrev pub lastPoll : PolledAt
+lastPoll = pollBy (callCheck (at 500) 0) (heardOnce .slaac) (firstPoll .polled .addrs) (firstPoll .polled .routes) 0 true card buffer (idle (at 500))
 
 pub record WorkedExamples : Type 0 where
   -- "P6 preferred 5 with valid 5 taken; 6 with 5 skipped."
@@ -124,15 +124,15 @@ pub record WorkedExamples : Type 0 where
   pub no-address : addrsOf (syncAddrs card (at 1) firstSync secondEnded) ≡ []
   pub first-stays : prefixesOf (leaveExpired (at 1) secondEnded) ≡ entryOf (net 0 64) 5000 9000 ∷ []
   -- "0 solicit 85007b2c000000000101020000000001"
-  pub first-answer : firstPoll .answer ≡ Solicited
+  pub first-answer : firstPoll .polled .answer ≡ Solicited
   pub solicit : pollBuffer (callCheck (at 0) 0) started ownAddrs true card buffer (idle (at 0))
       ≡ 0x85 ∷ 0x00 ∷ 0x7b ∷ 0x2c ∷ 0 ∷ 0 ∷ 0 ∷ 0 ∷ 0x01 ∷ 0x01 ∷ 0x02 ∷ 0 ∷ 0 ∷ 0 ∷ 0 ∷ 0x01 ∷ []
   pub heard : heardOnce .answer ≡ Done
-  pub last-answer : lastPoll .answer ≡ Quiet
+  pub last-answer : lastPoll .polled .answer ≡ Quiet
   -- the state printed
-  pub prefixes : prefixesOf (lastPoll .slaac) ≡ entryOf (net 0 64) 1800500 3600500 ∷ []
-  pub routers : routersOf (lastPoll .slaac) ≡ record { addr = router; «valid_until» = at 1800500 } ∷ []
-  pub addresses : addrsOf (lastPoll .addrs)
+  pub prefixes : prefixesOf (lastPoll .polled .slaac) ≡ entryOf (net 0 64) 1800500 3600500 ∷ []
+  pub routers : routersOf (lastPoll .polled .slaac) ≡ record { addr = router; «valid_until» = at 1800500 } ∷ []
+  pub addresses : addrsOf (lastPoll .polled .addrs)
       ≡ manualAddr ownCidr ∷ slaacAddr (net 0x0000_00ff_fe00_0001 64) (Until (at 1800500)) ∷ []
-  pub routes : routesOf (lastPoll .routes) ≡ slaacRoute 0 router (at 1800500) ∷ []
+  pub routes : routesOf (lastPoll .polled .routes) ≡ slaacRoute 0 router (at 1800500) ∷ []
   pub neighbors : entries (heardOnce .cache) ≡ []

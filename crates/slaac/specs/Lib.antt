@@ -2,4 +2,5 @@ pub mod Answers
 pub mod SlaacRules
 pub mod SyncRules
 pub mod PollRules
+pub mod OffRules
 pub mod Examples

@@ -26,7 +26,7 @@ use Rattle.slaac.specs.declared.PollAnswer.{PollAnswer}
 use Rattle.slaac.specs.declared.PollAnswer.the-variants.{Refused, Off, Quiet, Solicited, NoRoom}
 use Rattle.slaac.specs.declared.Turn.{Turn}
 use Rattle.slaac.specs.declared.Polled.{Polled}
-use Rattle.slaac.specs.declared.PollResult.{PollResult}
+use Rattle.slaac.specs.declared.PolledAt.{PolledAt}
 use Rattle.slaac.specs.Answers.{pollNumber, callCheck}
 use Rattle.slaac.specs.SyncRules.{syncAddrs, syncRoutes}
 
@@ -65,30 +65,30 @@ pub record TurnTo (d : Discovery) (sender : Source) (hw : HardwareAddress) (buf 
 
 -- Sync
 
-abbrev pub polled : Slaac → IfaceAddrs → Routes → Clock → PollAnswer → Polled
-polled s t r k a = record { slaac = s; addrs = t; routes = r; clock = k; answer = a }
+abbrev pub polled : Slaac → IfaceAddrs → Routes → Clock → PollAnswer → PolledAt
+polled s t r k a = record { clock = k; polled = record { slaac = s; addrs = t; routes = r; answer = a } }
 
-abbrev pub synced : Slaac → IfaceAddrs → Routes → ℕ → HardwareAddress → Instant → Clock → PollAnswer → Polled
+abbrev pub synced : Slaac → IfaceAddrs → Routes → ℕ → HardwareAddress → Instant → Clock → PollAnswer → PolledAt
 synced s t r iface hw now k a = polled (leaveExpired now s) (syncAddrs hw now t s) (syncRoutes iface now r s) k a
 
 -- "Sync follows if asked for, or if any prefix's valid-until or router's time has expired"
-unfoldable pub syncTurn : Slaac → IfaceAddrs → Routes → ℕ → HardwareAddress → Instant → Clock → PollAnswer → Polled
+unfoldable pub syncTurn : Slaac → IfaceAddrs → Routes → ℕ → HardwareAddress → Instant → Clock → PollAnswer → PolledAt
 syncTurn s t r iface hw now k a =
     cond (syncDue s k .expired) (synced s t r iface hw now (syncDue s k .clock) a) (polled s t r (syncDue s k .clock) a)
 
 -- The call: "Solicitation first. .. Sync follows"
 
-abbrev pub afterTurn : Turn → Slaac → IfaceAddrs → Routes → ℕ → HardwareAddress → Instant → Polled
+abbrev pub afterTurn : Turn → Slaac → IfaceAddrs → Routes → ℕ → HardwareAddress → Instant → PolledAt
 afterTurn u s t r iface hw now = syncTurn (withDiscovery s (u .discovery)) t r iface hw now (u .clock) (u .answer)
 
 abbrev pub senderIn : Bool → IfaceAddrs → Source
 senderIn up t = senderOf up (firstLocal (addrsOf t))
 
-unfoldable pub pollOn : Slaac → IfaceAddrs → Routes → ℕ → Bool → HardwareAddress → List ℕ → Clock → Polled
+unfoldable pub pollOn : Slaac → IfaceAddrs → Routes → ℕ → Bool → HardwareAddress → List ℕ → Clock → PolledAt
 pollOn s t r iface up hw buf k = afterTurn (turnOf (s .discovery) (senderIn up t) buf k) s t r iface hw (k .now)
 
 -- "With SLAAC off .. the poll answer Off, after 3 and 7 .., and do nothing."
-abbrev pub pollBy : Check → Slaac → IfaceAddrs → Routes → ℕ → Bool → HardwareAddress → List ℕ → Clock → Polled
+abbrev pub pollBy : Check → Slaac → IfaceAddrs → Routes → ℕ → Bool → HardwareAddress → List ℕ → Clock → PolledAt
 pollBy (Fails why) s t r iface up hw buf k = polled s t r k (Refused why)
 pollBy Fine s t r iface up hw buf k = cond (s .on) (pollOn s t r iface up hw buf k) (polled s t r k Off)
 
@@ -96,20 +96,17 @@ abbrev pub pollBuffer : Check → Slaac → IfaceAddrs → Bool → HardwareAddr
 pollBuffer (Fails why) s t up hw buf k = buf
 pollBuffer Fine s t up hw buf k = cond (s .on) (bufferOf (s .discovery) (senderIn up t) hw buf k) buf
 
-pub record PolledTo (s : Slaac) (t : IfaceAddrs) (r : Routes) (iface : ℕ) (up : Bool) (hw : HardwareAddress) (buf : List ℕ) (k : Clock) (p : Polled)
+pub record PolledTo (s : Slaac) (t : IfaceAddrs) (r : Routes) (iface : ℕ) (up : Bool) (hw : HardwareAddress) (buf : List ℕ) (k : Clock) (p : PolledAt)
     (buf' : List ℕ) : Type 0 where
   pub is : p ≡ pollBy (callCheck (k .now) iface) s t r iface up hw buf k
-  pub number : pollNumber (p .answer) ≡ checkNumber (callCheck (k .now) iface)
+  pub number : pollNumber (p .polled .answer) ≡ checkNumber (callCheck (k .now) iface)
   pub leaves : buf' ≡ pollBuffer (callCheck (k .now) iface) s t up hw buf k
 
 -- The same with the clock lent: it is left as the poll leaves it
 
-abbrev pub resultOf : Polled → PollResult
-resultOf p = record { slaac = p .slaac; addrs = p .addrs; routes = p .routes; answer = p .answer }
-
-pub record PolledBy (s : Slaac) (t : IfaceAddrs) (r : Routes) (iface : ℕ) (up : Bool) (hw : HardwareAddress) (buf : List ℕ) (k : Clock) (p : PollResult)
+pub record PolledBy (s : Slaac) (t : IfaceAddrs) (r : Routes) (iface : ℕ) (up : Bool) (hw : HardwareAddress) (buf : List ℕ) (k : Clock) (p : Polled)
     (buf' : List ℕ) (k' : Clock) : Type 0 where
-  pub is : p ≡ resultOf (pollBy (callCheck (k .now) iface) s t r iface up hw buf k)
+  pub is : p ≡ pollBy (callCheck (k .now) iface) s t r iface up hw buf k .polled
   pub number : pollNumber (p .answer) ≡ checkNumber (callCheck (k .now) iface)
   pub leaves : buf' ≡ pollBuffer (callCheck (k .now) iface) s t up hw buf k
   pub clock : k' ≡ pollBy (callCheck (k .now) iface) s t r iface up hw buf k .clock

@@ -6,11 +6,13 @@ ghost use mathlib.Core.Path.{_≡_};
 ghost use Rattle.ndisc.specs.OptionWalk.{optionsOf};
 ghost use Rattle.ndisc.specs.Rfc4861Messages.{advertBy};
 ghost use Rattle.slaac.specs.SlaacRules.{messageCheck, taughtBy, AdvertisedTo};
-ghost use Rattle.slaac.specs.PollRules.{senderOf, TurnTo, PolledTo, PolledBy};
+ghost use Rattle.slaac.specs.PollRules.{senderOf, TurnTo, PolledTo};
+ghost use Rattle.slaac.specs.OffRules.{TurnedOffTo};
 use iface::addr::IfaceAddrs;
 use iface::addr::Source;
 use iface::route::Routes;
 use learned::Discovery;
+use learned::Outcome;
 use learned::Slaac;
 use ndisc::ndisc::Advert;
 use ndisc::ndisc::Solicited;
@@ -18,6 +20,7 @@ use ndisc::ndiscoption::NdiscOption;
 use ndisc::ndiscoption::Next;
 use ndisc::ndiscoption::Walk;
 use neighbor::NeighborCache;
+use pending::PendingQueue;
 use time::Clock;
 use time::Duration;
 use time::Instant;
@@ -61,16 +64,13 @@ pub struct Polled {
     pub slaac: Slaac,
     pub addrs: IfaceAddrs,
     pub routes: Routes,
-    pub clock: Clock,
     pub answer: PollAnswer,
 }
 
-// The same without the clock.
-pub struct PollResult {
-    pub slaac: Slaac,
-    pub addrs: IfaceAddrs,
-    pub routes: Routes,
-    pub answer: PollAnswer,
+// The same with the clock.
+pub struct PolledAt {
+    pub clock: Clock,
+    pub polled: Polled,
 }
 
 // What the solicitation's turn leaves.
@@ -78,6 +78,16 @@ pub struct Turn {
     pub discovery: Discovery,
     pub clock: Clock,
     pub answer: PollAnswer,
+}
+
+// What turning SLAAC off leaves.
+pub struct TurnedOff {
+    pub slaac: Slaac,
+    pub addrs: IfaceAddrs,
+    pub routes: Routes,
+    pub cache: NeighborCache,
+    pub queue: PendingQueue,
+    pub outcome: Outcome,
 }
 
 // What the options of an advertisement teach.
@@ -266,26 +276,30 @@ pub fn poll_at(
     hardware_addr: HardwareAddress,
     buf: &mut [u8],
     clock: Clock,
-) -> Polled
+) -> PolledAt
     ensures { λ r. ⌜ PolledTo slaac addrs routes iface up «hardware_addr» (now (buf .entry)) clock r (now (buf .exit)) ⌝ }
 {
     let timestamp = clock.now;
     if let Check::Refused(why) = wire::error::check_time(timestamp, iface) {
-        return Polled {
-            slaac: slaac,
-            addrs: addrs,
-            routes: routes,
+        return PolledAt {
             clock: clock,
-            answer: PollAnswer::Refused(why),
+            polled: Polled {
+                slaac: slaac,
+                addrs: addrs,
+                routes: routes,
+                answer: PollAnswer::Refused(why),
+            },
         };
     }
     if !slaac.on {
-        return Polled {
-            slaac: slaac,
-            addrs: addrs,
-            routes: routes,
+        return PolledAt {
             clock: clock,
-            answer: PollAnswer::Off,
+            polled: Polled {
+                slaac: slaac,
+                addrs: addrs,
+                routes: routes,
+                answer: PollAnswer::Off,
+            },
         };
     }
     let source = addrs.link_local_ipv6_address();
@@ -304,46 +318,83 @@ pub fn poll_at(
         let a2 = sync::sync_addrs(addrs, s, hardware_addr, timestamp);
         let r2 = sync::sync_routes(routes, s, iface, timestamp);
         let s2 = s.update_slaac_state(timestamp);
-        return Polled {
-            slaac: s2,
-            addrs: a2,
-            routes: r2,
+        return PolledAt {
             clock: c,
-            answer: w,
+            polled: Polled {
+                slaac: s2,
+                addrs: a2,
+                routes: r2,
+                answer: w,
+            },
         };
     }
-    Polled {
-        slaac: s,
-        addrs: addrs,
-        routes: routes,
+    PolledAt {
         clock: c,
-        answer: w,
+        polled: Polled {
+            slaac: s,
+            addrs: addrs,
+            routes: routes,
+            answer: w,
+        },
     }
 }
 
-// The same with the clock lent.
-pub fn poll(
+// Turn SLAAC off: remove the addresses and routes it installed. If an address went, what is known and queued behind it goes
+// too. What is off already stays.
+pub fn turn_off(
     slaac: Slaac,
     addrs: IfaceAddrs,
     routes: Routes,
+    cache: NeighborCache,
+    queue: PendingQueue,
     iface: u8,
-    up: bool,
-    hardware_addr: HardwareAddress,
-    buf: &mut [u8],
-    clock: &mut Clock,
-) -> PollResult
-    ensures { λ r. ⌜ PolledBy slaac addrs routes iface up «hardware_addr» (now (buf .entry)) (now (clock .entry)) r (now (buf .exit)) (now (clock .exit)) ⌝ }
+) -> TurnedOff
+    ensures { λ r. ⌜ TurnedOffTo slaac addrs routes cache queue iface r ⌝ }
 {
-    let p = poll_at(slaac, addrs, routes, iface, up, hardware_addr, buf, *clock);
-    *clock = p.clock;
-    let s = p.slaac;
-    let a = p.addrs;
-    let r = p.routes;
-    let w = p.answer;
-    PollResult {
+    if let Check::Refused(why) = wire::error::check_iface(iface) {
+        return TurnedOff {
+            slaac: slaac,
+            addrs: addrs,
+            routes: routes,
+            cache: cache,
+            queue: queue,
+            outcome: Outcome::Refused(why),
+        };
+    }
+    if !slaac.on {
+        return TurnedOff {
+            slaac: slaac,
+            addrs: addrs,
+            routes: routes,
+            cache: cache,
+            queue: queue,
+            outcome: Outcome::Done,
+        };
+    }
+    let s = Slaac::off();
+    let c = addrs.clear_slaac();
+    let a = c.addrs;
+    let r = routes.clear_slaac(iface);
+    if c.any {
+        let n = cache.clear_iface(iface);
+        let m = n.cache;
+        let p = queue.purge_iface(iface);
+        let q = p.queue;
+        return TurnedOff {
+            slaac: s,
+            addrs: a,
+            routes: r,
+            cache: m,
+            queue: q,
+            outcome: Outcome::Done,
+        };
+    }
+    TurnedOff {
         slaac: s,
         addrs: a,
         routes: r,
-        answer: w,
+        cache: cache,
+        queue: queue,
+        outcome: Outcome::Done,
     }
 }
