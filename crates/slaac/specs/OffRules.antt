@@ -2,6 +2,7 @@
 use Prim.Native.Nat.{ℕ}
 use mathlib.Core.Path.{_≡_}
 use mathlib.Core.Bool.{Bool, false, cond}
+use Rattle.table.specs.Table.{kept}
 use Rattle.wire.specs.declared.error.Check.{Check}
 use Rattle.wire.specs.declared.error.Check.the-variants.{Fine, Refused as Fails}
 use Rattle.wire.specs.Refusals.{checkNumber}
@@ -9,7 +10,7 @@ use Rattle.neighbor.specs.declared.NeighborCache.{NeighborCache}
 use Rattle.neighbor.specs.NeighborRules.{clearIface}
 use Rattle.neighbor.specs.CacheCalls.{entries, withEntries}
 use Rattle.pending.specs.declared.PendingQueue.{PendingQueue}
-use Rattle.pending.specs.QueueRules.{onIface, keptPackets}
+use Rattle.pending.specs.QueueRules.{onIface}
 use Rattle.pending.specs.QueueCalls.{packets, withPackets}
 use Rattle.iface.specs.declared.addr.IfaceAddrs.{IfaceAddrs}
 use Rattle.iface.specs.declared.route.Routes.{Routes}
@@ -30,7 +31,7 @@ abbrev pub clearedCache : Bool → NeighborCache → ℕ → NeighborCache
 clearedCache went c iface = cond went (withEntries c (clearIface iface (entries c))) c
 
 abbrev pub clearedQueue : Bool → PendingQueue → ℕ → PendingQueue
-clearedQueue went q iface = cond went (withPackets q (keptPackets (onIface iface) (packets q))) q
+clearedQueue went q iface = cond went (withPackets q (kept (onIface iface) (packets q))) q
 
 -- "Turning SLAAC off removes its addresses and routes"; the state is that of SLAAC off, which is one value
 unfoldable pub offNow : IfaceAddrs → Routes → NeighborCache → PendingQueue → ℕ → TurnedOff
