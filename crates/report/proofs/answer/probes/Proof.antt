@@ -1,0 +1,72 @@
+use Prim.Native.Nat.{_-_}
+use mathlib.Core.Path.{_≡_}
+use mathlib.Core.List.{[]}
+use borrow.Author.Needs.{needs}
+use lib.ListN.{length}
+use Rattle.table.proofs.Laws.{mapped}
+use Rattle.sweep.specs.SweepCalls.{blankEvent}
+use Rattle.report.specs.AnswerLines.{slotLine, probeLines}
+use Rattle.report.proofs.ListingLaws.{Listing, listing, list-next, listed-all}
+use Rattle.text.proofs.PlaceLaws.{put-none}
+use Rattle.report.proofs.answer.probes.Statement.{statement}
+use Rattle.report.proofs.answer.probes.Tie as tie
+use Rattle.report.proofs.answer.probes.Reads as reads
+use Rattle.report.proofs.answer.probes.Lts as lts
+use Rattle.report.proofs.answer.probe.Reads as probe-reads
+use Rattle.table.proofs.count_of.Reads as count-of-reads
+
+abbrev Inv-loop : tie.InvT-loop
+Inv-loop out₀ at time events k next₀ i₀ out next i = Listing 16 (slotLine time) [] (events .slots) (events .len) k i out₀ next₀ next out
+
+abbrev μ-loop : tie.MeasureT-loop
+μ-loop out₀ at time events k next₀ i₀ out next i = k - i
+
+count-of-requires : tie.Need-count-of-requires Inv-loop μ-loop
+count-of-requires c κs = search needs
+
+loop-holds : tie.Need-loop-holds Inv-loop μ-loop
+loop-holds c = let t = c .before .before .args .t4 in
+    let full : length (t .slots) ≡ 16 = search (needs, mapped) in
+    listing 16 _ [] (t .slots) (t .len) _ full (c .count-of .ensures) (put-none _ _)
+
+mul-e : tie.Need-mul-e Inv-loop μ-loop
+mul-e c = search needs
+
+element-copy-out-e : tie.Need-element-copy-out-e Inv-loop μ-loop
+element-copy-out-e c = search needs
+
+probe-requires : tie.Need-probe-requires Inv-loop μ-loop
+probe-requires c κs = search needs
+
+add-i : tie.Need-add-i Inv-loop μ-loop
+add-i c = search needs
+
+loop-less : tie.Need-loop-less Inv-loop μ-loop
+loop-less c = search needs
+
+loop-again : tie.Need-loop-again Inv-loop μ-loop
+loop-again c = list-next blankEvent (c .before .before .before .before .before .before .loop .inv) (c .before .before .before .before .before .loop-test .taken) (c .before .before .probe .ensures)
+
+same-length : tie.Need-same-length Inv-loop μ-loop
+same-length c = search needs
+
+returns : tie.Need-returns Inv-loop μ-loop
+unfolding probeLines
+returns c = listed-all (c .before .loop .inv) (c .loop-test .left)
+
+pub probes-spec : {M : Type 1} → statement M
+probes-spec =
+    tie.close
+    (tie.spec
+    Inv-loop
+    μ-loop
+    count-of-requires
+    loop-holds
+    mul-e
+    element-copy-out-e
+    probe-requires
+    add-i
+    loop-less
+    loop-again
+    same-length
+    returns)

@@ -1,0 +1,45 @@
+use borrow.Author.Needs.{needs}
+use Rattle.report.specs.AnswerLines.{solicitLine}
+use Rattle.text.proofs.PlaceLaws.{chain}
+use Rattle.report.proofs.answer.solicit.Statement.{statement}
+use Rattle.report.proofs.answer.solicit.Tie as tie
+use Rattle.report.proofs.answer.solicit.Reads as reads
+use Rattle.report.proofs.answer.solicit.Lts as lts
+use Rattle.text.proofs.print.byte.Reads as byte-reads
+use Rattle.text.proofs.print.hexes.Reads as hexes-reads
+use Rattle.text.proofs.print.number.Reads as number-reads
+use Rattle.text.proofs.print.word.Reads as word-reads
+
+number-requires : tie.Need-number-requires
+number-requires c κs = search needs
+
+slice-aggregate-word : tie.Need-slice-aggregate-word
+slice-aggregate-word c = search needs
+
+word-requires : tie.Need-word-requires
+word-requires c κs = search needs
+
+hexes-requires : tie.Need-hexes-requires
+hexes-requires c κs = search needs
+
+byte-requires : tie.Need-byte-requires
+byte-requires c κs = search needs
+
+same-length : tie.Need-same-length
+same-length c = search needs
+
+returns : tie.Need-returns
+unfolding solicitLine
+returns c = chain (chain (chain (c .before .before .before .before .before .before .before .before .before .before .before .before .before .before .before .number .ensures) (c .before .before .before .before .before .before .before .before .before .before .word .ensures)) (c .before .before .before .before .before .before .hexes .ensures)) (c .before .before .byte .ensures)
+
+pub solicit-spec : {M : Type 1} → statement M
+solicit-spec =
+    tie.close
+    (tie.spec
+    number-requires
+    slice-aggregate-word
+    word-requires
+    hexes-requires
+    byte-requires
+    same-length
+    returns)

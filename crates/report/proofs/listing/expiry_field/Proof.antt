@@ -1,0 +1,51 @@
+use mathlib.Core.Path.{sym, ap}
+use borrow.Author.Needs.{needs}
+use Rattle.report.specs.StateLines.{expiryField}
+use Rattle.text.proofs.PlaceLaws.{put-as}
+use Rattle.report.proofs.listing.expiry_field.Statement.{statement}
+use Rattle.report.proofs.listing.expiry_field.Tie as tie
+use Rattle.report.proofs.listing.expiry_field.Reads as reads
+use Rattle.report.proofs.listing.expiry_field.Lts as lts
+use Rattle.report.proofs.listing.number_field.Reads as number-field-reads
+use Rattle.text.proofs.print.word.Reads as word-reads
+
+enum-told : tie.Need-enum-told
+enum-told c = search needs
+
+slice-aggregate-word : tie.Need-slice-aggregate-word
+slice-aggregate-word c = search needs
+
+word-requires : tie.Need-word-requires
+word-requires c κs = search needs
+
+enum-known-expiry : tie.Need-enum-known-expiry
+enum-known-expiry c = search needs
+
+number-field-requires : tie.Need-number-field-requires
+number-field-requires c κs = search needs
+
+same-length : tie.Need-same-length
+same-length c = search needs
+
+returns : tie.Need-returns
+returns c = put-as (ap expiryField (sym (c .before .before .before .before .before .enum-told .given .1))) (c .before .before .word .ensures)
+
+same-length-2 : tie.Need-same-length-2
+same-length-2 c = search needs
+
+returns-2 : tie.Need-returns-2
+returns-2 c = put-as (ap expiryField (sym (c .before .before .before .before .before .expiry .given .1))) (c .before .before .number-field .ensures)
+
+pub expiry-field-spec : {M : Type 1} → statement M
+expiry-field-spec =
+    tie.close
+    (tie.spec
+    enum-told
+    slice-aggregate-word
+    word-requires
+    enum-known-expiry
+    number-field-requires
+    same-length
+    returns
+    same-length-2
+    returns-2)

@@ -1,0 +1,48 @@
+use borrow.Author.Needs.{needs}
+use Rattle.report.specs.StateLines.{prefixLine, addressField}
+use Rattle.text.proofs.PlaceLaws.{chain}
+use Rattle.report.proofs.listing.prefix_line.Statement.{statement}
+use Rattle.report.proofs.listing.prefix_line.Tie as tie
+use Rattle.report.proofs.listing.prefix_line.Reads as reads
+use Rattle.report.proofs.listing.prefix_line.Lts as lts
+use Rattle.report.proofs.listing.number_field.Reads as number-field-reads
+use Rattle.text.proofs.print.address.Reads as address-reads
+use Rattle.text.proofs.print.byte.Reads as byte-reads
+
+address-requires : tie.Need-address-requires
+address-requires c κs = search needs
+
+cast-number-field : tie.Need-cast-number-field
+cast-number-field c = search needs
+
+number-field-requires : tie.Need-number-field-requires
+number-field-requires c κs = search needs
+
+number-field-requires-2 : tie.Need-number-field-requires-2
+number-field-requires-2 c κs = search needs
+
+number-field-requires-3 : tie.Need-number-field-requires-3
+number-field-requires-3 c κs = search needs
+
+byte-requires : tie.Need-byte-requires
+byte-requires c κs = search needs
+
+same-length : tie.Need-same-length
+same-length c = search needs
+
+returns : tie.Need-returns
+unfolding prefixLine addressField
+returns c = chain (chain (chain (chain (c .before .before .before .before .before .before .before .before .before .before .before .before .before .before .before .before .before .before .before .address .ensures) (c .before .before .before .before .before .before .before .before .before .before .before .before .before .before .number-field .ensures)) (c .before .before .before .before .before .before .before .before .before .before .number-field2 .ensures)) (c .before .before .before .before .before .before .number-field3 .ensures)) (c .before .before .byte .ensures)
+
+pub prefix-line-spec : {M : Type 1} → statement M
+prefix-line-spec =
+    tie.close
+    (tie.spec
+    address-requires
+    cast-number-field
+    number-field-requires
+    number-field-requires-2
+    number-field-requires-3
+    byte-requires
+    same-length
+    returns)
