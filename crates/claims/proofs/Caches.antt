@@ -9,13 +9,13 @@ use mathlib.Core.List.{List, [], _∷_, map}
 use mathlib.Core.Path.{_≡_, refl, sym, ap, _∙_, subst}
 use native.Mathlib.Omega.{arith}
 use Rattle.claims.proofs.Demand3.{demand3}
-use Rattle.claims.specs.Caches.{ofLookup, ofGot, ofOutcome, ofSweep, eventOf, eventList, Step, looks-up, starts, fills, inserts, gets, lists, removes, clears, sweeps, Run, none, one-more, OnCaches}
-use Rattle.claims.specs.Calls.{Call, lookup, start, fill, insert, get, remove, clear, sweep, check, meant, does, next, Answer, done, looked, got, swept, answer, answerBy, effectBy, answers, tableAfter, reply}
+use Rattle.claims.specs.Caches.{ofLookup, ofGot, ofOutcome, ofSweep, eventOf, eventList, Step, looks-up, starts, fills, inserts, gets, lists, removes, clears, advertises, sweeps, heardAddr, heardMessage, heardBy, Run, none, one-more, OnCaches}
+use Rattle.claims.specs.Calls.{Call, lookup, start, fill, insert, get, remove, clear, sweep, advertise, silence, address, reachable, check, meant, does, next, Answer, done, looked, got, swept, answer, answerBy, effectBy, answers, tableAfter, reply}
 use Rattle.claims.specs.Watch.{reportsAll}
 use Rattle.neighbor.specs.Answers.{answerOf}
 use Rattle.neighbor.specs.CacheCalls.{key, entries, withEntries, changeBy, ChangedTo, lookupBy, getBy, removeBy, keyCheck, fillCheck, ifaceCheck, answerIn, shown, blank}
 use Rattle.neighbor.specs.Distinct.{Distinct}
-use Rattle.neighbor.specs.NeighborRules.{Table, Key, isKey, find, removeKey}
+use Rattle.neighbor.specs.NeighborRules.{Table, Key, isKey, find, insertState, removeKey}
 use Rattle.neighbor.specs.declared.Answer.the-variants.{NotFound}
 use Rattle.neighbor.specs.declared.Changed.{Changed}
 use Rattle.neighbor.specs.declared.Entry.{Entry}
@@ -30,6 +30,16 @@ use Rattle.sweep.specs.SweepRules.{sweepTable}
 use Rattle.sweep.specs.declared.ProbeEvent.{ProbeEvent}
 use Rattle.table.specs.Table.{swapRemove, firstOf}
 use Rattle.time.specs.declared.Clock.{Clock}
+use Rattle.time.specs.declared.Instant.{Instant}
+use Rattle.wire.specs.declared.ipv6.Ipv6Addr.{Ipv6Addr}
+use Rattle.wire.specs.Rfc2464.{isUnicastHardware}
+use Rattle.learned.specs.declared.Slaac.{Slaac}
+use Rattle.slaac.specs.declared.LinkLayerAddr.{LinkLayerAddr}
+use Rattle.slaac.specs.declared.LinkLayerAddr.the-variants.{Nothing as NoAddr, Is as IsAddr}
+use Rattle.slaac.specs.declared.Advertised.{Advertised}
+use Rattle.slaac.specs.declared.AdvertAnswer.the-variants.{Off}
+use Rattle.slaac.specs.Answers.{callCheck}
+use Rattle.slaac.specs.SlaacRules.{messageCheck, optionsIn, lastSource, filledBy, step5, advertBy, callBy}
 use Rattle.wire.specs.declared.error.Check.the-variants.{Fine, Refused as Fails}
 use Rattle.wire.specs.declared.error.Check.{Check}
 
@@ -124,6 +134,34 @@ sweeping (Fails why) c k i = (refl, refl)
 sweeping Fine c k i =
     (ap (swept i) (ap eventList (sweep-events c k i) ∙ listed-events (sweepTable i (k .now) (entries c) .events)), sweep-entries c k i)
 
+-- an advertisement fills, or does nothing
+telling : (l : LinkLayerAddr) (c : NeighborCache) (i : ℕ) (source : Ipv6Addr) (now : Instant)
+    → entries (step5 c i source l now) ≡ does (meant (advertise (key i source) now (heardAddr l))) (entries c)
+telling NoAddr c i source now = refl
+telling (IsAddr h) c i source now = go (isUnicastHardware h)
+  where
+    go : (b : Bool)
+        → entries (cond {A = NeighborCache} b (filledBy c i source h now) c) ≡ does (meant (advertise (key i source) now (cond b (address h) silence))) (entries c)
+    go true = entries-of c (insertState (key i source) (reachable h now) (entries c))
+    go false = refl
+
+message : (y : Check) (s : Slaac) (c : NeighborCache) (i : ℕ) (source : Ipv6Addr) (msg : List ℕ) (now : Instant)
+    → entries (advertBy y s c i source msg now .cache) ≡ does (meant (advertise (key i source) now (heardMessage y (lastSource (optionsIn msg))))) (entries c)
+message (Fails why) s c i source msg now = refl
+message Fine s c i source msg now = telling (lastSource (optionsIn msg)) c i source now
+
+hearing : (x : Check) (s : Slaac) (c : NeighborCache) (i : ℕ) (source : Ipv6Addr) (msg : List ℕ) (now : Instant)
+    → entries (callBy x s c i source msg now .cache)
+    ≡ does (meant (advertise (key i source) now (heardBy x (s .on) (messageCheck source msg) (lastSource (optionsIn msg))))) (entries c)
+hearing (Fails why) s c i source msg now = refl
+hearing Fine s c i source msg now = go (s .on)
+  where
+    go : (b : Bool)
+        → entries (cond {A = Advertised} b (advertBy (messageCheck source msg) s c i source msg now) (record { slaac = s; cache = c; answer = Off }) .cache)
+        ≡ does (meant (advertise (key i source) now (cond b (heardMessage (messageCheck source msg) (lastSource (optionsIn msg))) silence))) (entries c)
+    go true = message (messageCheck source msg) s c i source msg now
+    go false = refl
+
 -- Steps and runs
 
 abbrev Follows : NeighborCache → Call → Answer → NeighborCache → Type 0
@@ -143,6 +181,7 @@ follows (gets c i a r h) = (ap ofGot (h .is) ∙ getting (ifaceCheck i) c (key i
 follows (lists c n r h) = (ap ofGot h ∙ listing (ltb n (length (entries c))) (getD (entries c) n blank), refl)
 follows (removes c i a r h) = rw (h .is) (removing (ifaceCheck i) c (key i a))
 follows (clears c i r h) = changed (ifaceCheck i) (clear i) c r h refl
+follows (advertises c s i source msg now r h) = (refl, ap (λ (q : Advertised). entries (q .cache)) (h .is) ∙ hearing (callCheck now i) s c i source msg now)
 follows (sweeps c k i r h) = rw (h .is) (sweeping (sweepCheck k i) c k i)
 
 more : (c : NeighborCache) (call : Call) (a : Answer) (d : NeighborCache) (cs : List Call) (as′ : List Answer) (e : NeighborCache) → Follows c call a d

@@ -1,267 +1,255 @@
--- No address gone early: the laws of the tables. Assumes nothing.
-use Prim.Native.Nat.{ℕ, _+_, _*_, _≤_, _<_, min}
-use borrow.Author.Tests.{eqb-true, eq-eqb, ltb-false}
-use lib.Dec.{eqb, ltb}
-use lib.ListN.{length, take, drop}
-use lib.Seq.{take-at}
-use mathlib.Core.Bool.{Bool, true, false, cond, _&&_, true≢false}
-use mathlib.Core.List.{List, [], _∷_, _++_}
-use mathlib.Core.Path.{_≡_, refl, sym, ap, _∙_, subst}
+-- No address gone early, and no default route. Assumes nothing.
+use Prim.Native.Nat.{ℕ, _≤_, _<_}
 use native.Mathlib.Omega.{arith}
-use Rattle.neighbor.proofs.Keys.{and-true}
-use Rattle.claims.specs.Early.{All, stands, LastsTo, Spares, routeStands, RouterLastsTo, RouterSpares}
-use Rattle.iface.specs.AddressRules.{isAddr, isFromSlaac, slaacAddr, refreshed, gone, putAddr, dropAddr, anywhere}
-use Rattle.iface.specs.RouteRules.{isSlaac, isRoute, isInstalled, isLearned, extended, noneLeft, putRoute, dropRoute, clearRoutes}
+use mathlib.Core.Path.{_≡_, refl, sym, ap, _∙_, subst}
+use mathlib.Core.Bool.{Bool, true, false, cond}
+use mathlib.Core.List.{List, [], _∷_, _++_}
+use Rattle.table.specs.Table.{foldOver}
+use Rattle.time.specs.declared.Instant.{Instant}
+use Rattle.time.specs.declared.Clock.{Clock}
+use Rattle.time.specs.declared.Duration.{Duration}
+use Rattle.time.specs.TimeRules.{addOf, secondsOf}
+use Rattle.wire.specs.declared.ipv6.Ipv6Addr.{Ipv6Addr}
+use Rattle.wire.specs.declared.ipv6.Ipv6Cidr.{Ipv6Cidr}
+use Rattle.wire.specs.declared.ipv6.Formed.{Formed}
+use Rattle.wire.specs.declared.ipv6.Formed.the-variants.{Nothing, Addr}
+use Rattle.wire.specs.declared.ethernet.HardwareAddress.{HardwareAddress}
+use Rattle.wire.specs.declared.error.Check.{Check}
+use Rattle.wire.specs.declared.error.Check.the-variants.{Fine, Refused as Fails}
+use Rattle.wire.specs.Rfc2464.{formedOf}
+use Rattle.wire.specs.Rfc4291.{sameCidr}
+use Rattle.ndisc.specs.declared.ndiscoption.NdiscOption.{NdiscOption}
+use Rattle.ndisc.specs.declared.ndiscoption.PrefixInformation.{PrefixInformation}
+use Rattle.ndisc.specs.Rfc4861Messages.{routerAdvertAt}
+use Rattle.neighbor.specs.declared.NeighborCache.{NeighborCache}
 use Rattle.iface.specs.declared.addr.IfaceAddr.{IfaceAddr}
+use Rattle.iface.specs.declared.addr.IfaceAddrs.{IfaceAddrs}
 use Rattle.iface.specs.declared.addr.Preferred.{Preferred}
 use Rattle.iface.specs.declared.route.Route.{Route}
-use Rattle.learned.specs.ExpiryRules.{isValid, prefixGone, routerGone, leaveExpired}
-use Rattle.learned.specs.LearnedRules.{prefixesOf, routersOf, ifRoom, isSkipped, isPrefix, cidrOf, prefixOf, putOver, addPrefix, prefixEnds, expirePrefix, processPrefix, isRouter, addRouter, routerEnds, expireRouter, processRouter}
+use Rattle.iface.specs.declared.route.Routes.{Routes}
+use Rattle.iface.specs.AddressRules.{addrsOf, withAddrs, manualAddr, addAddrBy, addrCheck, putAddr, dropAddr}
+use Rattle.iface.specs.RouteRules.{routesOf, withRoutes, manualRoute, addRouteBy, routeCheck, putRoute, dropRoute}
 use Rattle.learned.specs.declared.Prefix.{Prefix}
 use Rattle.learned.specs.declared.Router.{Router}
 use Rattle.learned.specs.declared.Slaac.{Slaac}
-use Rattle.ndisc.specs.declared.ndiscoption.PrefixInformation.{PrefixInformation}
-use Rattle.table.specs.Table.{filled, kept, atFirst, anyOf}
-use Rattle.time.specs.TimeRules.{addOf}
-use Rattle.time.specs.declared.Duration.{Duration}
-use Rattle.time.specs.declared.Instant.{Instant}
-use Rattle.wire.specs.Rfc2464.{formedOf}
-use Rattle.wire.specs.Rfc4291.{sameAddr, sameCidr}
-use Rattle.wire.specs.declared.ethernet.HardwareAddress.{HardwareAddress}
-use Rattle.wire.specs.declared.ipv6.Formed.the-variants.{Addr}
-use Rattle.wire.specs.declared.ipv6.Ipv6Addr.{Ipv6Addr}
-use Rattle.wire.specs.declared.ipv6.Ipv6Cidr.{Ipv6Cidr}
+use Rattle.learned.specs.LearnedRules.{prefixesOf, routersOf, processPrefix, processRouter, prefixOf}
+use Rattle.learned.specs.DiscoveryRules.{ifaceCheck, changeBy, restarted as restartedOf, turnedOn, begun, withDiscovery, fresh}
+use Rattle.learned.specs.ExpiryRules.{isValid, syncDue, leaveExpired}
+use Rattle.slaac.specs.Answers.{callCheck}
+use Rattle.slaac.specs.SlaacRules.{messageCheck, optionsIn, prefixOptions, step2, learned, advertBy, callBy}
+use Rattle.slaac.specs.SyncRules.{preferredOf, syncFormed, syncPrefix, syncRouter, syncAddrs, syncRoutes}
+use Rattle.slaac.specs.PollRules.{syncTurn, afterTurn, turnOf, senderIn, pollOn, pollBy}
+use Rattle.slaac.specs.declared.Turn.{Turn}
+use Rattle.slaac.specs.declared.Polled.{Polled}
+use Rattle.slaac.specs.declared.Advertised.{Advertised}
+use Rattle.slaac.specs.declared.AdvertAnswer.the-variants.{Off}
+use Rattle.slaac.specs.declared.PollAnswer.the-variants.{Off as PollOff}
+use Rattle.learned.specs.declared.Changed.{Changed}
+use Rattle.iface.specs.declared.addr.Added.{Added}
+use Rattle.iface.specs.declared.route.AddedRoute.{AddedRoute}
+use Rattle.slaac.specs.declared.PollAnswer.{PollAnswer}
+use Rattle.claims.specs.Early.{All, Host, HostCall, advertise, poll, restart, turnOn, addAddr, addRoute, pollElsewhere, Step, advertised, polled, restarted, turned-on, addr-added, route-added, polled-elsewhere, Run, none, one-more, stands, LastsTo, Spares, Harmless, Silent, routeStands, RouterLastsTo, RouterSpares, HarmlessTo, NotEarly}
+use Rattle.claims.proofs.Standing.{entries-with, put-stands, drop-stands, add-stands, process-lasts, leave-lasts, router-apart, put-route-stands, drop-route-stands, add-route-stands, process-router, leave-router, prefix-apart, expired-other, expired-router}
 
--- Equal addresses, tested and stated
-
-same-addr : (a b : Ipv6Addr) → sameAddr a b ≡ true → a ≡ b
-same-addr a b e = λ i. record { hi = eqb-true (a .hi) (b .hi) (x .0) i; lo = eqb-true (a .lo) (b .lo) (x .1) i }
-  where
-    x : (eqb (a .hi) (b .hi) ≡ true) × (eqb (a .lo) (b .lo) ≡ true)
-    x = and-true _ _ e
-
-same-cidr : (a b : Ipv6Cidr) → sameCidr a b ≡ true → a ≡ b
-same-cidr a b e =
-    λ i. record { address = same-addr (a .address) (b .address) (x .0) i; «prefix_len» = eqb-true (a .«prefix_len») (b .«prefix_len») (x .1) i }
-  where
-    x : (sameAddr (a .address) (b .address) ≡ true) × (eqb (a .«prefix_len») (b .«prefix_len») ≡ true)
-    x = and-true _ _ e
-
-sameAddr-refl : (a : Ipv6Addr) → sameAddr a a ≡ true
-sameAddr-refl a = rw (eq-eqb (a .hi) (a .hi) refl, eq-eqb (a .lo) (a .lo) refl)
-
--- Lists
-
-module _ {A : Type 0} (P : A → Type 0) where
-  all-append : (xs ys : List A) → All P xs → All P ys → All P (xs ++ ys)
-  all-append [] ys h g = g
-  all-append (x ∷ xs) ys h g = (h .0, all-append xs ys (h .1) g)
-
-  pub all-kept : (test : A → Bool) (xs : List A) → All P xs → All P (kept test xs)
-  all-kept test [] h = tt
-  all-kept test (x ∷ xs) h = go (test x) (all-kept test xs (h .1))
-    where
-      go : (b : Bool) → All P (kept test xs) → All P (cond b (kept test xs) (x ∷ kept test xs))
-      go true r = r
-      go false r = (h .0, r)
-
-  pub all-first : (test : A → Bool) (f : A → List A) (new xs : List A) → All P xs → All P new
-      → ((x : A) → test x ≡ true → P x → All P (f x)) → All P (atFirst test f new xs)
-  all-first test f new [] h n m = n
-  all-first test f new (x ∷ xs) h n m = go (test x) refl (all-first test f new xs (h .1) n m)
-    where
-      go : (b : Bool) → test x ≡ b → All P (atFirst test f new xs) → All P (cond b (f x ++ xs) (x ∷ atFirst test f new xs))
-      go true e r = all-append (f x) xs (m x e (h .0)) (h .1)
-      go false e r = (h .0, r)
-
-  all-if : (b : Bool) (x : A) → P x → All P (cond b (x ∷ []) [])
-  all-if true x h = (h, tt)
-  all-if false x h = tt
-
--- The address table
-
-lift : (y a u v : Bool) → (u ≡ true → v ≡ true) → cond y a u ≡ true → cond y a v ≡ true
-lift true a u v f h = h
-lift false a u v f h = f h
-
-other : (e c a : Ipv6Cidr) → sameCidr e c ≡ true → sameCidr c a ≡ false → sameCidr e a ≡ false
-other e c a p q = ap (λ (x : Ipv6Cidr). sameCidr x a) (same-cidr e c p) ∙ q
-
-first-keeps : (a c : Ipv6Cidr) (p : Preferred) (new es : List IfaceAddr) → stands a es ≡ true → stands a (atFirst (isAddr c) (refreshed p) new es) ≡ true
-first-keeps a c p new [] h = absurd (true≢false (sym h))
-first-keeps a c p new (e ∷ es) h = go (isAddr c e) (first-keeps a c p new es)
-  where
-    same : (b : Bool) → isFromSlaac e ≡ b → stands a (cond b (slaacAddr (e .cidr) p ∷ []) (e ∷ []) ++ es) ≡ true
-    same true q = turned (isAddr a e) (rw q at h)
-      where
-        turned : (y : Bool) → cond y true (stands a es) ≡ true → cond y true (stands a es) ≡ true
-        turned y r = r
-    same false q = h
-
-    go : (x : Bool) → (stands a es ≡ true → stands a (atFirst (isAddr c) (refreshed p) new es) ≡ true)
-        → stands a (cond x (refreshed p e ++ es) (e ∷ atFirst (isAddr c) (refreshed p) new es)) ≡ true
-    go true f = same (isFromSlaac e) refl
-    go false f = lift (isAddr a e) _ _ _ f h
-
-pub put-stands : (a c : Ipv6Cidr) (p : Preferred) (es : List IfaceAddr) → stands a es ≡ true → stands a (putAddr c p es) ≡ true
-unfolding putAddr
-put-stands a c p es h = first-keeps a c p _ es h
-
-first-drops : (a c : Ipv6Cidr) → sameCidr c a ≡ false → (es : List IfaceAddr) → stands a es ≡ true → stands a (atFirst (isAddr c) gone [] es) ≡ true
-first-drops a c n [] h = absurd (true≢false (sym h))
-first-drops a c n (e ∷ es) h = go (isAddr c e) refl (first-drops a c n es)
-  where
-    less : (b : Bool) → isAddr c e ≡ true → stands a (cond b [] (e ∷ []) ++ es) ≡ true
-    less true q = ap (λ (y : Bool). cond y (isFromSlaac e) (stands a es)) (sym (other (e .cidr) c a q n)) ∙ h
-    less false q = h
-
-    go : (x : Bool) → isAddr c e ≡ x → (stands a es ≡ true → stands a (atFirst (isAddr c) gone [] es) ≡ true)
-        → stands a (cond x (gone e ++ es) (e ∷ atFirst (isAddr c) gone [] es)) ≡ true
-    go true q f = less (isFromSlaac e) q
-    go false q f = lift (isAddr a e) _ _ _ f h
-
-pub drop-stands : (a c : Ipv6Cidr) → sameCidr c a ≡ false → (es : List IfaceAddr) → stands a es ≡ true → stands a (dropAddr c es) ≡ true
-unfolding dropAddr
-drop-stands a c n es h = first-drops a c n es h
-
-pub add-stands : (a : Ipv6Cidr) (e : IfaceAddr) (es : List IfaceAddr) → stands a es ≡ true → stands a (es ++ (e ∷ [])) ≡ true
-add-stands a e [] h = absurd (true≢false (sym h))
-add-stands a e (x ∷ es) h = lift (isAddr a x) (isFromSlaac x) (stands a es) _ (add-stands a e es) h
-
--- The prefix table
-
-entries-with : {A : Type 0} (s xs : List A) → take (length xs) (filled s xs) ≡ xs
-entries-with s xs = take-at xs (drop (length xs) s) (length xs) refl
-
-all-with : {A : Type 0} (P : A → Type 0) (s xs : List A) → All P xs → All P (take (length xs) (filled s xs))
-all-with P s xs h = rw (entries-with s xs) h
+-- Addresses
 
 module _ (v : ℕ) (hw : HardwareAddress) (a : Ipv6Cidr) where
   abbrev lasts : Prefix → Type 0
   lasts = LastsTo v hw a
 
-  add-lasts : (s : Slaac) (p : Prefix) → All lasts (prefixesOf s) → lasts p → All lasts (prefixesOf (addPrefix s p))
-  unfolding addPrefix
-  add-lasts s p h g =
-      all-with lasts (s .prefixes) (atFirst (isPrefix (p .cidr)) (putOver p) (ifRoom 4 (prefixesOf s) p) (prefixesOf s))
-      (all-first lasts (isPrefix (p .cidr)) (putOver p) (ifRoom 4 (prefixesOf s) p) (prefixesOf s) h (all-if lasts (ltb (length (prefixesOf s)) 4) p g) (λ x e q. (g, tt)))
+  stands-with : (t : IfaceAddrs) (es : List IfaceAddr) → stands a es ≡ true → stands a (addrsOf (withAddrs t es)) ≡ true
+  stands-with t es h = rw (entries-with (t .slots) es) h
 
-  expire-lasts : (s : Slaac) (c : Ipv6Cidr) (now : Instant) → All lasts (prefixesOf s) → (formedOf hw c ≡ Addr a → v ≤ now .0)
-      → All lasts (prefixesOf (expirePrefix s c now))
-  unfolding expirePrefix
-  expire-lasts s c now h g =
-      all-with lasts (s .prefixes) (atFirst (isPrefix c) (prefixEnds now) [] (prefixesOf s))
-      (all-first lasts (isPrefix c) (prefixEnds now) [] (prefixesOf s) h tt
-      (λ x e q. ((λ f. g (ap (formedOf hw) (sym (same-cidr (x .cidr) c e)) ∙ f)), tt)))
-
-  pub process-lasts : (now : Instant) (s : Slaac) (o : PrefixInformation) → All lasts (prefixesOf s) → Spares v hw a now o
-      → All lasts (prefixesOf (processPrefix now s o))
-  unfolding processPrefix
-  process-lasts now s o h g = go (isSkipped o) (ltb 0 (o .«valid_lifetime»)) refl refl
+  -- a sync before v
+  sync-one : (now : Instant) → now .0 < v → (t : IfaceAddrs) (p : Prefix) → lasts p → stands a (addrsOf t) ≡ true → stands a (addrsOf (syncPrefix hw now t p)) ≡ true
+  unfolding syncPrefix
+  sync-one now early t p l h = go (formedOf hw (p .cidr)) refl
     where
-      at-once : o .«valid_lifetime» ≤ 0 → v ≤ min (now .0 + o .«valid_lifetime» * 1000) 0xffff_ffff_ffff_ffff → v ≤ now .0
-      at-once z e = omega arith
+      at : (c : Ipv6Cidr) → formedOf hw (p .cidr) ≡ Addr c → (b : Bool) → isValid now (p .«valid_until») ≡ b
+          → stands a (addrsOf (cond {A = IfaceAddrs} b (withAddrs t (putAddr c (preferredOf now (p .«preferred_until»)) (addrsOf t))) (withAddrs t (dropAddr c (addrsOf t))))) ≡ true
+      at c f true e =
+          stands-with t (putAddr c (preferredOf now (p .«preferred_until»)) (addrsOf t)) (put-stands a c (preferredOf now (p .«preferred_until»)) (addrsOf t) h)
+      at c f false e = stands-with t (dropAddr c (addrsOf t)) (drop-stands a c (expired-other v hw a c now p early l f e) (addrsOf t) h)
 
-      go : (x y : Bool) → isSkipped o ≡ x → ltb 0 (o .«valid_lifetime») ≡ y
-          → All lasts (prefixesOf (cond {A = Slaac} x s (cond {A = Slaac} y (addPrefix s (prefixOf o now)) (expirePrefix s (cidrOf o) now))))
-      go true y ex ey = h
-      go false true ex ey = add-lasts s (prefixOf o now) h (g ex)
-      go false false ex ey = expire-lasts s (cidrOf o) now h (λ f. at-once (ltb-false 0 (o .«valid_lifetime») ey) (g ex f))
+      go : (f : Formed) → formedOf hw (p .cidr) ≡ f → stands a (addrsOf (syncFormed f now t p)) ≡ true
+      go Nothing f = h
+      go (Addr c) f = at c f (isValid now (p .«valid_until»)) refl
 
-  pub leave-lasts : (now : Instant) (s : Slaac) → All lasts (prefixesOf s) → All lasts (prefixesOf (leaveExpired now s))
-  unfolding leaveExpired
-  leave-lasts now s h = all-with lasts (s .prefixes) (kept (prefixGone now) (prefixesOf s)) (all-kept lasts (prefixGone now) (prefixesOf s) h)
+  sync-each : (now : Instant) → now .0 < v → (ps : List Prefix) (t : IfaceAddrs) → All lasts ps → stands a (addrsOf t) ≡ true
+      → stands a (addrsOf (foldOver (syncPrefix hw now) t ps)) ≡ true
+  sync-each now early [] t l h = h
+  sync-each now early (p ∷ ps) t l h = sync-each now early ps (syncPrefix hw now t p) (l .1) (sync-one now early t p (l .0) h)
 
-  -- what a router's entry and the flags do leaves the prefixes
-  pub router-apart : (now : Instant) (s : Slaac) (source : Ipv6Addr) (d : Duration) → prefixesOf (processRouter now s source d) ≡ prefixesOf s
-  unfolding processRouter addRouter expireRouter
-  router-apart now s source d = go (ltb 0 (d .0))
+  -- the options of an advertisement
+  options-last : (now : Instant) (os : List PrefixInformation) (s : Slaac) → All lasts (prefixesOf s) → All (Spares v hw a now) os
+      → All lasts (prefixesOf (foldOver (processPrefix now) s os))
+  options-last now [] s l h = l
+  options-last now (o ∷ os) s l h = options-last now os (processPrefix now s o) (process-lasts v hw a now s o l (h .0)) (h .1)
+
+  learned-lasts : (s : Slaac) (source : Ipv6Addr) (msg : List ℕ) (now : Instant) → All lasts (prefixesOf s) → All (Spares v hw a now) (prefixOptions (optionsIn msg))
+      → All lasts (prefixesOf (learned s source msg now))
+  unfolding step2
+  learned-lasts s source msg now l h =
+      subst (All lasts) (sym (router-apart v hw a now (step2 now s (optionsIn msg)) source (secondsOf (routerAdvertAt msg .«router_lifetime»))))
+      (options-last now (prefixOptions (optionsIn msg)) s l h)
+
+  -- what every call keeps
+  record Good (s : Slaac) (t : IfaceAddrs) : Type 0 where
+    there : stands a (addrsOf t) ≡ true
+    long : All lasts (prefixesOf s)
+
+  good-advert : (x : Check) (s : Slaac) (t : IfaceAddrs) (c : NeighborCache) (i : ℕ) (source : Ipv6Addr) (msg : List ℕ) (now : Instant)
+      → All (Spares v hw a now) (prefixOptions (optionsIn msg)) → Good s t → Good (advertBy x s c i source msg now .slaac) t
+  good-advert (Fails why) s t c i source msg now h g = g
+  good-advert Fine s t c i source msg now h g = record { there = g .there; long = learned-lasts s source msg now (g .long) h }
+
+  good-call : (x : Check) (s : Slaac) (t : IfaceAddrs) (c : NeighborCache) (i : ℕ) (source : Ipv6Addr) (msg : List ℕ) (now : Instant)
+      → All (Spares v hw a now) (prefixOptions (optionsIn msg)) → Good s t → Good (callBy x s c i source msg now .slaac) t
+  good-call (Fails why) s t c i source msg now h g = g
+  good-call Fine s t c i source msg now h g = go (s .on)
     where
-      go : (x : Bool) → prefixesOf (cond {A = Slaac} x (addRouter s (record { addr = source; «valid_until» = addOf now d })) (expireRouter s source now)) ≡ prefixesOf s
-      go true = refl
-      go false = refl
+      go : (b : Bool) → Good (cond {A = Advertised} b (advertBy (messageCheck source msg) s c i source msg now) (record { slaac = s; cache = c; answer = Off }) .slaac) t
+      go true = good-advert (messageCheck source msg) s t c i source msg now h g
+      go false = g
 
--- The routes
-
-module _ {A : Type 0} (seen : A → Bool) where
-  any-append : (xs ys : List A) → anyOf seen xs ≡ true → anyOf seen (xs ++ ys) ≡ true
-  any-append [] ys h = absurd (true≢false (sym h))
-  any-append (x ∷ xs) ys h = lift (seen x) true (anyOf seen xs) _ (any-append xs ys) h
-
-  any-after : (xs ys : List A) → anyOf seen ys ≡ true → anyOf seen (xs ++ ys) ≡ true
-  any-after [] ys h = h
-  any-after (x ∷ xs) ys h = go (seen x) (any-after xs ys h)
+  good-sync : (s : Slaac) (t : IfaceAddrs) (r : Routes) (i : ℕ) (now : Instant) (k : Clock) (w : PollAnswer) → now .0 < v → Good s t
+      → Good (syncTurn s t r i hw now k w .slaac) (syncTurn s t r i hw now k w .addrs)
+  unfolding syncTurn syncAddrs
+  good-sync s t r i now k w early g = go (syncDue s k .expired)
     where
-      go : (b : Bool) → anyOf seen (xs ++ ys) ≡ true → cond b true (anyOf seen (xs ++ ys)) ≡ true
-      go true r = refl
-      go false r = r
+      after : Bool → Polled
+      after b =
+          cond b (record { slaac = leaveExpired now s; addrs = syncAddrs hw now t s; routes = syncRoutes i now r s; clock = syncDue s k .clock; answer = w })
+          (record { slaac = s; addrs = t; routes = r; clock = syncDue s k .clock; answer = w })
 
-  any-first : (test : A → Bool) (f : A → List A) (new xs : List A) → anyOf seen xs ≡ true
-      → ((x : A) → test x ≡ true → seen x ≡ true → anyOf seen (f x) ≡ true) → anyOf seen (atFirst test f new xs) ≡ true
-  any-first test f new [] h m = absurd (true≢false (sym h))
-  any-first test f new (x ∷ xs) h m = go (test x) refl (λ r. any-first test f new xs r m)
+      go : (b : Bool) → Good (after b .slaac) (after b .addrs)
+      go true = record { there = sync-each now early (prefixesOf s) t (g .long) (g .there); long = leave-lasts v hw a now s (g .long) }
+      go false = g
+
+  good-poll : (x : Check) (s : Slaac) (t : IfaceAddrs) (r : Routes) (i : ℕ) (up : Bool) (buf : List ℕ) (k : Clock) → k .now .0 < v → Good s t
+      → Good (pollBy x s t r i up hw buf k .slaac) (pollBy x s t r i up hw buf k .addrs)
+  unfolding pollOn
+  good-poll (Fails why) s t r i up buf k early g = g
+  good-poll Fine s t r i up buf k early g = go (s .on)
     where
-      there : (b : Bool) → seen x ≡ b → test x ≡ true → cond b true (anyOf seen xs) ≡ true → anyOf seen (f x ++ xs) ≡ true
-      there true q e r = any-append (f x) xs (m x e q)
-      there false q e r = any-after (f x) xs r
+      u : Turn
+      u = turnOf (s .discovery) (senderIn up t) buf k
 
-      go : (b : Bool) → test x ≡ b → (anyOf seen xs ≡ true → anyOf seen (atFirst test f new xs) ≡ true)
-          → anyOf seen (cond b (f x ++ xs) (x ∷ atFirst test f new xs)) ≡ true
-      go true e ih = there (seen x) refl e h
-      go false e ih = lift (seen x) true (anyOf seen xs) _ ih h
+      after : Bool → Polled
+      after b =
+          cond b (syncTurn (withDiscovery s (u .discovery)) t r i hw (k .now) (u .clock) (u .answer))
+          (record { slaac = s; addrs = t; routes = r; clock = k; answer = PollOff })
 
-  any-kept : (test : A → Bool) → ((x : A) → seen x ≡ true → test x ≡ false) → (xs : List A) → anyOf seen xs ≡ true → anyOf seen (kept test xs) ≡ true
-  any-kept test m [] h = h
-  any-kept test m (x ∷ xs) h = go (seen x) (test x) refl refl h (any-kept test m xs)
+      go : (b : Bool) → Good (after b .slaac) (after b .addrs)
+      go true = good-sync (withDiscovery s (u .discovery)) t r i (k .now) (u .clock) (u .answer) early (record { there = g .there; long = g .long })
+      go false = g
+
+  good-restart : (x : Check) (s : Slaac) (t : IfaceAddrs) → Good s t → Good (changeBy x s (restartedOf s) .slaac) t
+  good-restart (Fails why) s t g = g
+  good-restart Fine s t g = go (s .on)
     where
-      go : (b y : Bool) → seen x ≡ b → test x ≡ y → cond b true (anyOf seen xs) ≡ true → (anyOf seen xs ≡ true → anyOf seen (kept test xs) ≡ true)
-          → anyOf seen (cond y (kept test xs) (x ∷ kept test xs)) ≡ true
-      go true true q e r ih = absurd (true≢false (sym e ∙ m x q))
-      go true false q e r ih = rw q
-      go false true q e r ih = ih r
-      go false false q e r ih = rw q (ih r)
+      go : (b : Bool) → Good (cond {A = Slaac} b (withDiscovery s begun) s) t
+      go true = record { there = g .there; long = g .long }
+      go false = g
 
--- a default route that is installed is of its interface and its router
-module _ (i : ℕ) (via : Ipv6Addr) (e : Route) (h : isInstalled i via e ≡ true) where
-  installed-route : isRoute i anywhere via e ≡ true
-  installed-route = and-true (isSlaac (e .origin)) (isRoute i anywhere via e) h .1
+  good-on : (x : Check) (s : Slaac) (t : IfaceAddrs) → Good s t → Good (changeBy x s (turnedOn s) .slaac) t
+  good-on (Fails why) s t g = g
+  good-on Fine s t g = go (s .on)
+    where
+      go : (b : Bool) → Good (cond {A = Slaac} b s (fresh true)) t
+      go true = g
+      go false = record { there = g .there; long = tt }
 
-  installed-here : e .iface ≡ i
-  installed-here =
-      eqb-true (e .iface) i
-      (and-true (eqb (e .iface) i) (sameCidr (e .cidr) anywhere)
-      (and-true (eqb (e .iface) i && sameCidr (e .cidr) anywhere) (sameAddr (e .«via_router») via) installed-route .0) .0)
+  good-added : (x : Check) (s : Slaac) (t : IfaceAddrs) (c : Ipv6Cidr) → Good s t → Good s (addAddrBy x t c .addrs)
+  good-added (Fails why) s t c g = g
+  good-added Fine s t c g =
+      record { there = stands-with t (addrsOf t ++ (manualAddr c ∷ [])) (add-stands a (manualAddr c) (addrsOf t) (g .there)); long = g .long }
 
-  installed-via : e .«via_router» ≡ via
-  installed-via =
-      same-addr (e .«via_router») via
-      (and-true (eqb (e .iface) i && sameCidr (e .cidr) anywhere) (sameAddr (e .«via_router») via) installed-route .1)
+  good-step : {i : ℕ} {x y : Host} {c : HostCall} → Step i hw x c y → Harmless v hw a c → Good (x .slaac) (x .addrs) → Good (y .slaac) (y .addrs)
+  good-step {i} (advertised x c' source msg now r p) h g =
+      subst (λ (q : Advertised). Good (q .slaac) (x .addrs)) (sym (p .is)) (good-call (callCheck now i) (x .slaac) (x .addrs) c' i source msg now h g)
+  good-step {i} (polled x up buf buf' k r p) h g =
+      subst (λ (q : Polled). Good (q .slaac) (q .addrs)) (sym (p .is)) (good-poll (callCheck (k .now) i) (x .slaac) (x .addrs) (x .routes) i up buf k h g)
+  good-step {i} (restarted x r p) h g = subst (λ (q : Changed). Good (q .slaac) (x .addrs)) (sym (p .is)) (good-restart (ifaceCheck i) (x .slaac) (x .addrs) g)
+  good-step {i} (turned-on x r p) h g = subst (λ (q : Changed). Good (q .slaac) (x .addrs)) (sym (p .is)) (good-on (ifaceCheck i) (x .slaac) (x .addrs) g)
+  good-step {i} (addr-added x n r p) h g =
+      subst (λ (q : Added). Good (x .slaac) (q .addrs)) (sym (p .is)) (good-added (addrCheck i n (addrsOf (x .addrs))) (x .slaac) (x .addrs) n g)
+  good-step {i} (route-added x j n via r p) h g = g
+  good-step {i} (polled-elsewhere x j s t up h' buf buf' k r n p) h g = g
 
--- so if it is two routers' it is one router's, of one interface
-same-route : (i j : ℕ) (via by : Ipv6Addr) (e : Route) → isInstalled j by e ≡ true → isInstalled i via e ≡ true → (j ≡ i) × (by ≡ via)
-same-route i j via by e p q = (sym (installed-here j by e p) ∙ installed-here i via e q, sym (installed-via j by e p) ∙ installed-via i via e q)
+  good-run : {i : ℕ} {x y : Host} {cs : List HostCall} → Run i hw x cs y → All (Harmless v hw a) cs → Good (x .slaac) (x .addrs) → Good (y .slaac) (y .addrs)
+  good-run (none x) h g = g
+  good-run (one-more s r) h g = good-run r (h .1) (good-step s (h .0) g)
 
-pub put-route-stands : (i j : ℕ) (via by : Ipv6Addr) (t : Instant) (es : List Route) → routeStands i via es ≡ true → routeStands i via (putRoute j by t es) ≡ true
-unfolding putRoute
-put-route-stands i j via by t es h = any-first (isInstalled i via) (isInstalled j by) (extended t) _ es h (λ x e q. rw (installed-route i via x q))
+-- Routes
 
-pub drop-route-stands : (i j : ℕ) (via by : Ipv6Addr) (es : List Route) → (j ≡ i → by ≡ via → ⊥) → routeStands i via es ≡ true
-    → routeStands i via (dropRoute j by es) ≡ true
-unfolding dropRoute
-drop-route-stands i j via by es n h =
-    any-first (isInstalled i via) (isInstalled j by) noneLeft [] es h (λ x e q. let z = same-route i j via by x e q in absurd (n (z .0) (z .1)))
+all-map : {A : Type 0} (P Q : A → Type 0) → ((x : A) → P x → Q x) → (xs : List A) → All P xs → All Q xs
+all-map P Q f [] h = tt
+all-map P Q f (x ∷ xs) h = (f x (h .0), all-map P Q f xs (h .1))
 
-pub clear-route-stands : (i j : ℕ) (via : Ipv6Addr) (es : List Route) → (j ≡ i → ⊥) → routeStands i via es ≡ true → routeStands i via (clearRoutes j es) ≡ true
-unfolding clearRoutes
-clear-route-stands i j via es n h = any-kept (isInstalled i via) (isLearned j) (λ x q. spared x q (isLearned j x) refl) es h
-  where
-    spared : (x : Route) → isInstalled i via x ≡ true → (b : Bool) → isLearned j x ≡ b → b ≡ false
-    spared x q true e =
-        absurd (n (sym (eqb-true (x .iface) j (and-true (isSlaac (x .origin)) (eqb (x .iface) j) e .1)) ∙ installed-here i via x q))
-    spared x q false e = refl
+all-of : {A : Type 0} (P : A → Type 0) → ((x : A) → P x) → (xs : List A) → All P xs
+all-of P f [] = tt
+all-of P f (x ∷ xs) = (f x, all-of P f xs)
 
-pub add-route-stands : (i : ℕ) (via : Ipv6Addr) (e : Route) (es : List Route) → routeStands i via es ≡ true → routeStands i via (es ++ (e ∷ [])) ≡ true
-add-route-stands i via e es h = any-append (isInstalled i via) es (e ∷ []) h
+module _ (i : ℕ) (via : Ipv6Addr) where
+  route-with : (t : Routes) (es : List Route) → routeStands i via es ≡ true → routeStands i via (routesOf (withRoutes t es)) ≡ true
+  route-with t es h = rw (entries-with (t .slots) es) h
+
+  -- a router of interface j that has expired is another one
+  abbrev Other : ℕ → Instant → Router → Type 0
+  Other j now r = isValid now (r .«valid_until») ≡ false → j ≡ i → r .addr ≡ via → ⊥
+
+  sync-router : (j : ℕ) (now : Instant) (t : Routes) (r : Router) → Other j now r → routeStands i via (routesOf t) ≡ true
+      → routeStands i via (routesOf (syncRouter j now t r)) ≡ true
+  unfolding syncRouter
+  sync-router j now t r o h = go (isValid now (r .«valid_until»)) refl
+    where
+      go : (b : Bool) → isValid now (r .«valid_until») ≡ b
+          → routeStands i via (routesOf (cond {A = Routes} b (withRoutes t (putRoute j (r .addr) (r .«valid_until») (routesOf t))) (withRoutes t (dropRoute j (r .addr) (routesOf t)))))
+          ≡ true
+      go true e = route-with t (putRoute j (r .addr) (r .«valid_until») (routesOf t)) (put-route-stands i j via (r .addr) (r .«valid_until») (routesOf t) h)
+      go false e = route-with t (dropRoute j (r .addr) (routesOf t)) (drop-route-stands i j via (r .addr) (routesOf t) (o e) h)
+
+  sync-routers : (j : ℕ) (now : Instant) (rs : List Router) (t : Routes) → All (Other j now) rs → routeStands i via (routesOf t) ≡ true
+      → routeStands i via (routesOf (foldOver (syncRouter j now) t rs)) ≡ true
+  sync-routers j now [] t o h = h
+  sync-routers j now (r ∷ rs) t o h = sync-routers j now rs (syncRouter j now t r) (o .1) (sync-router j now t r (o .0) h)
+
+  route-sync : (s : Slaac) (t : IfaceAddrs) (r : Routes) (j : ℕ) (hw : HardwareAddress) (now : Instant) (k : Clock) (w : PollAnswer) → All (Other j now) (routersOf s)
+      → routeStands i via (routesOf r) ≡ true → routeStands i via (routesOf (syncTurn s t r j hw now k w .routes)) ≡ true
+  unfolding syncTurn syncRoutes
+  route-sync s t r j hw now k w o h = go (syncDue s k .expired)
+    where
+      after : Bool → Polled
+      after b =
+          cond b (record { slaac = leaveExpired now s; addrs = syncAddrs hw now t s; routes = syncRoutes j now r s; clock = syncDue s k .clock; answer = w })
+          (record { slaac = s; addrs = t; routes = r; clock = syncDue s k .clock; answer = w })
+
+      go : (b : Bool) → routeStands i via (routesOf (after b .routes)) ≡ true
+      go true = sync-routers j now (routersOf s) r o h
+      go false = h
+
+  route-poll : (x : Check) (s : Slaac) (t : IfaceAddrs) (r : Routes) (j : ℕ) (up : Bool) (hw : HardwareAddress) (buf : List ℕ) (k : Clock)
+      → All (Other j (k .now)) (routersOf s) → routeStands i via (routesOf r) ≡ true → routeStands i via (routesOf (pollBy x s t r j up hw buf k .routes)) ≡ true
+  unfolding pollOn
+  route-poll (Fails why) s t r j up hw buf k o h = h
+  route-poll Fine s t r j up hw buf k o h = go (s .on)
+    where
+      u : Turn
+      u = turnOf (s .discovery) (senderIn up t) buf k
+
+      after : Bool → Polled
+      after b =
+          cond b (syncTurn (withDiscovery s (u .discovery)) t r j hw (k .now) (u .clock) (u .answer))
+          (record { slaac = s; addrs = t; routes = r; clock = k; answer = PollOff })
+
+      go : (b : Bool) → routeStands i via (routesOf (after b .routes)) ≡ true
+      go true = route-sync (withDiscovery s (u .discovery)) t r j hw (k .now) (u .clock) (u .answer) o h
+      go false = h
+
+  route-added-to : (x : Check) (t : Routes) (e : Route) → routeStands i via (routesOf t) ≡ true → routeStands i via (routesOf (addRouteBy x t e .routes)) ≡ true
+  route-added-to (Fails why) t e h = h
+  route-added-to Fine t e h = route-with t (routesOf t ++ (e ∷ [])) (add-route-stands i via e (routesOf t) h)
 
 -- The routers
 
@@ -269,55 +257,153 @@ module _ (v : ℕ) (via : Ipv6Addr) where
   abbrev stays : Router → Type 0
   stays = RouterLastsTo v via
 
-  pub process-router : (now : Instant) (s : Slaac) (source : Ipv6Addr) (d : Duration) → All stays (routersOf s) → RouterSpares v via now source d
-      → All stays (routersOf (processRouter now s source d))
-  unfolding processRouter addRouter expireRouter
-  process-router now s source d h g = go (ltb 0 (d .0)) refl
+  options-apart : (now : Instant) (os : List PrefixInformation) (s : Slaac) → routersOf (foldOver (processPrefix now) s os) ≡ routersOf s
+  options-apart now [] s = refl
+  options-apart now (o ∷ os) s = options-apart now os (processPrefix now s o) ∙ prefix-apart v via now s o
+
+  learned-stays : (s : Slaac) (source : Ipv6Addr) (msg : List ℕ) (now : Instant) → All stays (routersOf s)
+      → RouterSpares v via now source (secondsOf (routerAdvertAt msg .«router_lifetime»)) → All stays (routersOf (learned s source msg now))
+  unfolding step2
+  learned-stays s source msg now l h =
+      process-router v via now (step2 now s (optionsIn msg)) source (secondsOf (routerAdvertAt msg .«router_lifetime»))
+      (subst (All stays) (sym (options-apart now (prefixOptions (optionsIn msg)) s)) l) h
+
+  stays-advert : (x : Check) (s : Slaac) (c : NeighborCache) (i : ℕ) (source : Ipv6Addr) (msg : List ℕ) (now : Instant)
+      → RouterSpares v via now source (secondsOf (routerAdvertAt msg .«router_lifetime»)) → All stays (routersOf s)
+      → All stays (routersOf (advertBy x s c i source msg now .slaac))
+  stays-advert (Fails why) s c i source msg now h l = l
+  stays-advert Fine s c i source msg now h l = learned-stays s source msg now l h
+
+  stays-call : (x : Check) (s : Slaac) (c : NeighborCache) (i : ℕ) (source : Ipv6Addr) (msg : List ℕ) (now : Instant)
+      → RouterSpares v via now source (secondsOf (routerAdvertAt msg .«router_lifetime»)) → All stays (routersOf s)
+      → All stays (routersOf (callBy x s c i source msg now .slaac))
+  stays-call (Fails why) s c i source msg now h l = l
+  stays-call Fine s c i source msg now h l = go (s .on)
     where
-      new : Router
-      new = record { addr = source; «valid_until» = addOf now d }
+      go : (b : Bool)
+          → All stays (routersOf (cond {A = Advertised} b (advertBy (messageCheck source msg) s c i source msg now) (record { slaac = s; cache = c; answer = Off }) .slaac))
+      go true = stays-advert (messageCheck source msg) s c i source msg now h l
+      go false = l
 
-      at-once : d .0 ≤ 0 → v ≤ min (now .0 + d .0) 0xffff_ffff_ffff_ffff → v ≤ now .0
-      at-once z e = omega arith
-
-      go : (x : Bool) → ltb 0 (d .0) ≡ x → All stays (routersOf (cond {A = Slaac} x (addRouter s new) (expireRouter s source now)))
-      go true e =
-          all-with stays (s .routers) (atFirst (isRouter source) (putOver new) (ifRoom 2 (routersOf s) new) (routersOf s))
-          (all-first stays (isRouter source) (putOver new) (ifRoom 2 (routersOf s) new) (routersOf s) h (all-if stays (ltb (length (routersOf s)) 2) new g) (λ x e q. (g, tt)))
-      go false e =
-          all-with stays (s .routers) (atFirst (isRouter source) (routerEnds now) [] (routersOf s))
-          (all-first stays (isRouter source) (routerEnds now) [] (routersOf s) h tt
-          (λ x t q. ((λ f. at-once (ltb-false 0 (d .0) e) (g (subst (λ (y : Ipv6Addr). sameAddr y via ≡ true) (same-addr (x .addr) source t) f))), tt)))
-
-  pub leave-router : (now : Instant) (s : Slaac) → All stays (routersOf s) → All stays (routersOf (leaveExpired now s))
-  unfolding leaveExpired
-  leave-router now s h = all-with stays (s .routers) (kept (routerGone now) (routersOf s)) (all-kept stays (routerGone now) (routersOf s) h)
-
-  pub prefix-apart : (now : Instant) (s : Slaac) (o : PrefixInformation) → routersOf (processPrefix now s o) ≡ routersOf s
-  unfolding processPrefix addPrefix expirePrefix
-  prefix-apart now s o = go (isSkipped o) (ltb 0 (o .«valid_lifetime»))
+  stays-sync : (s : Slaac) (t : IfaceAddrs) (r : Routes) (i : ℕ) (hw : HardwareAddress) (now : Instant) (k : Clock) (w : PollAnswer) → All stays (routersOf s)
+      → All stays (routersOf (syncTurn s t r i hw now k w .slaac))
+  unfolding syncTurn
+  stays-sync s t r i hw now k w l = go (syncDue s k .expired)
     where
-      go : (x y : Bool) → routersOf (cond {A = Slaac} x s (cond {A = Slaac} y (addPrefix s (prefixOf o now)) (expirePrefix s (cidrOf o) now))) ≡ routersOf s
-      go true y = refl
-      go false true = refl
-      go false false = refl
+      after : Bool → Polled
+      after b =
+          cond b (record { slaac = leaveExpired now s; addrs = syncAddrs hw now t s; routes = syncRoutes i now r s; clock = syncDue s k .clock; answer = w })
+          (record { slaac = s; addrs = t; routes = r; clock = syncDue s k .clock; answer = w })
 
--- The sync, before v
+      go : (b : Bool) → All stays (routersOf (after b .slaac))
+      go true = leave-router v via now s l
+      go false = l
 
--- an expired prefix forms another address
-pub expired-other : (v : ℕ) (hw : HardwareAddress) (a c : Ipv6Cidr) (now : Instant) (p : Prefix) → now .0 < v → LastsTo v hw a p
-    → formedOf hw (p .cidr) ≡ Addr c → isValid now (p .«valid_until») ≡ false → sameCidr c a ≡ false
-expired-other v hw a c now p early lasts f e = go (sameCidr c a) refl
-  where
-    go : (b : Bool) → sameCidr c a ≡ b → b ≡ false
-    go true q =
-        let long : v ≤ p .«valid_until» .0 = lasts (f ∙ ap Addr (same-cidr c a q)) in
-        absurd (omega (arith, ltb-false (now .0) (p .«valid_until» .0) e))
-    go false q = refl
+  stays-poll : (x : Check) (s : Slaac) (t : IfaceAddrs) (r : Routes) (i : ℕ) (up : Bool) (hw : HardwareAddress) (buf : List ℕ) (k : Clock) → All stays (routersOf s)
+      → All stays (routersOf (pollBy x s t r i up hw buf k .slaac))
+  unfolding pollOn
+  stays-poll (Fails why) s t r i up hw buf k l = l
+  stays-poll Fine s t r i up hw buf k l = go (s .on)
+    where
+      u : Turn
+      u = turnOf (s .discovery) (senderIn up t) buf k
 
--- an expired router is another
-pub expired-router : (v : ℕ) (via : Ipv6Addr) (now : Instant) (r : Router) → now .0 < v → RouterLastsTo v via r
-    → isValid now (r .«valid_until») ≡ false → r .addr ≡ via → ⊥
-expired-router v via now r early lasts e same =
-    let long : v ≤ r .«valid_until» .0 = lasts (rw same (sameAddr-refl via)) in
-    omega (arith, ltb-false (now .0) (r .«valid_until» .0) e)
+      after : Bool → Polled
+      after b =
+          cond b (syncTurn (withDiscovery s (u .discovery)) t r i hw (k .now) (u .clock) (u .answer))
+          (record { slaac = s; addrs = t; routes = r; clock = k; answer = PollOff })
+
+      go : (b : Bool) → All stays (routersOf (after b .slaac))
+      go true = stays-sync (withDiscovery s (u .discovery)) t r i hw (k .now) (u .clock) (u .answer) l
+      go false = l
+
+  stays-restart : (x : Check) (s : Slaac) → All stays (routersOf s) → All stays (routersOf (changeBy x s (restartedOf s) .slaac))
+  stays-restart (Fails why) s l = l
+  stays-restart Fine s l = go (s .on)
+    where
+      go : (b : Bool) → All stays (routersOf (cond {A = Slaac} b (withDiscovery s begun) s))
+      go true = l
+      go false = l
+
+  stays-on : (x : Check) (s : Slaac) → All stays (routersOf s) → All stays (routersOf (changeBy x s (turnedOn s) .slaac))
+  stays-on (Fails why) s l = l
+  stays-on Fine s l = go (s .on)
+    where
+      go : (b : Bool) → All stays (routersOf (cond {A = Slaac} b s (fresh true)))
+      go true = l
+      go false = tt
+
+  -- what every call keeps, on interface i
+  record Held (i : ℕ) (x : Host) : Type 0 where
+    there : routeStands i via (routesOf (x .routes)) ≡ true
+    long : All stays (routersOf (x .slaac))
+
+  others : (i : ℕ) (now : Instant) → now .0 < v → (rs : List Router) → All stays rs → All (Other i via i now) rs
+  others i now early rs l = all-map stays (Other i via i now) (λ r h e same by. expired-router v via now r early h e by) rs l
+
+  held-step : {i : ℕ} {hw : HardwareAddress} {x y : Host} {c : HostCall} → Step i hw x c y → HarmlessTo v via c → Held i x → Held i y
+  held-step {i} (advertised x c' source msg now r p) h g =
+      record {
+        there = g .there;
+        long = subst (λ (q : Advertised). All stays (routersOf (q .slaac))) (sym (p .is)) (stays-call (callCheck now i) (x .slaac) c' i source msg now h (g .long));
+      }
+  held-step {i} {hw} (polled x up buf buf' k r p) h g =
+      record {
+        there =
+            subst (λ (q : Polled). routeStands i via (routesOf (q .routes)) ≡ true) (sym (p .is))
+            (route-poll i via (callCheck (k .now) i) (x .slaac) (x .addrs) (x .routes) i up hw buf k (others i (k .now) h (routersOf (x .slaac)) (g .long)) (g .there));
+        long =
+            subst (λ (q : Polled). All stays (routersOf (q .slaac))) (sym (p .is))
+            (stays-poll (callCheck (k .now) i) (x .slaac) (x .addrs) (x .routes) i up hw buf k (g .long));
+      }
+  held-step {i} (restarted x r p) h g =
+      record { there = g .there; long = subst (λ (q : Changed). All stays (routersOf (q .slaac))) (sym (p .is)) (stays-restart (ifaceCheck i) (x .slaac) (g .long)) }
+  held-step {i} (turned-on x r p) h g =
+      record { there = g .there; long = subst (λ (q : Changed). All stays (routersOf (q .slaac))) (sym (p .is)) (stays-on (ifaceCheck i) (x .slaac) (g .long)) }
+  held-step (addr-added x n r p) h g = record { there = g .there; long = g .long }
+  held-step {i} (route-added x j n by r p) h g =
+      record {
+        there =
+            subst (λ (q : AddedRoute). routeStands i via (routesOf (q .routes)) ≡ true) (sym (p .is))
+            (route-added-to i via (routeCheck j n by (routesOf (x .routes))) (x .routes) (manualRoute j n by) (g .there));
+        long = g .long;
+      }
+  held-step {i} (polled-elsewhere x j s t up hw' buf buf' k r n p) h g =
+      record {
+        there =
+            subst (λ (q : Polled). routeStands i via (routesOf (q .routes)) ≡ true) (sym (p .is))
+            (route-poll i via (callCheck (k .now) j) s t (x .routes) j up hw' buf k (all-of (Other i via j (k .now)) (λ r' e same by. n same) (routersOf s)) (g .there));
+        long = g .long;
+      }
+
+  held-run : {i : ℕ} {hw : HardwareAddress} {x y : Host} {cs : List HostCall} → Run i hw x cs y → All (HarmlessTo v via) cs → Held i x → Held i y
+  held-run (none x) h g = g
+  held-run (one-more s r) h g = held-run r (h .1) (held-step s (h .0) g)
+
+-- The claim
+
+-- an advertisement that names no prefix that forms the address spares it, whatever the time
+silent-harmless : (v : ℕ) (hw : HardwareAddress) (a : Ipv6Cidr) (c : HostCall) → Silent v hw a c → Harmless v hw a c
+silent-harmless v hw a (advertise source msg now) h = all-map _ (Spares v hw a now) (λ o n e f. absurd (n (e, f))) (prefixOptions (optionsIn msg)) h
+silent-harmless v hw a (poll now) h = h
+silent-harmless v hw a restart h = tt
+silent-harmless v hw a turnOn h = tt
+silent-harmless v hw a addAddr h = tt
+silent-harmless v hw a addRoute h = tt
+silent-harmless v hw a pollElsewhere h = tt
+
+ends : (p q : Prefix) → q ≡ p → p .«valid_until» .0 ≤ q .«valid_until» .0
+ends p q same = rw same (omega arith)
+
+pub not-early : NotEarly
+not-early = record {
+  address = λ i hw a v x y cs r h l q. good-run v hw a r q (record { there = h; long = l }) .there;
+  address-of =
+      λ i hw a p x y cs r h o q.
+      good-run (p .«valid_until» .0) hw a r (all-map (Silent (p .«valid_until» .0) hw a) (Harmless (p .«valid_until» .0) hw a) (silent-harmless (p .«valid_until» .0) hw a) cs q)
+      (record {
+        there = h;
+        long = all-map _ (LastsTo (p .«valid_until» .0) hw a) (λ q f e. ends p q (f e)) (prefixesOf (x .slaac)) o;
+      }) .there;
+  route = λ i hw via v x y cs r h l q. held-run v via r q (record { there = h; long = l }) .there;
+}

@@ -1,3 +1,4 @@
+pub mod Claims
 pub mod Base
 pub mod Walk
 pub mod Events
@@ -7,6 +8,8 @@ pub mod Calls
 pub mod Demand3
 pub mod Traces
 pub mod Caches
+pub mod Places
 pub mod Clocks
+pub mod Standing
 pub mod Early
 pub mod Examples

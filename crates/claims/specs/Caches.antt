@@ -1,7 +1,7 @@
 -- Runs of the code's own calls on caches are runs on entries: the promise of each function that is given the cache, call by call. Assumes nothing.
 use Prim.Native.Nat.{ℕ, _≤_}
 use mathlib.Core.Path.{_≡_}
-use mathlib.Core.Bool.{Bool}
+use mathlib.Core.Bool.{Bool, cond}
 use mathlib.Core.List.{List, [], _∷_, map}
 use lib.ListN.{take, length}
 use Rattle.time.specs.declared.Instant.{Instant}
@@ -20,12 +20,21 @@ use Rattle.neighbor.specs.declared.Removed.{Removed}
 use Rattle.neighbor.specs.NeighborRules.{Key}
 use Rattle.neighbor.specs.Distinct.{Distinct}
 use Rattle.neighbor.specs.CacheCalls.{key, empty, entries, LookedUp, GotBy, atIndex, RemovedTo, startTo, insertTo, fillTo, clearTo}
+use Rattle.wire.specs.declared.error.Check.{Check}
+use Rattle.wire.specs.declared.error.Check.the-variants.{Fine, Refused as Fails}
+use Rattle.wire.specs.Rfc2464.{isUnicastHardware}
+use Rattle.learned.specs.declared.Slaac.{Slaac}
+use Rattle.slaac.specs.declared.LinkLayerAddr.{LinkLayerAddr}
+use Rattle.slaac.specs.declared.LinkLayerAddr.the-variants.{Nothing as NoAddr, Is as IsAddr}
+use Rattle.slaac.specs.declared.Advertised.{Advertised}
+use Rattle.slaac.specs.Answers.{callCheck}
+use Rattle.slaac.specs.SlaacRules.{messageCheck, optionsIn, lastSource, AdvertisedTo}
 use Rattle.sweep.specs.declared.ProbeEvent.{ProbeEvent}
 use Rattle.sweep.specs.declared.EventSlot.{EventSlot}
 use Rattle.sweep.specs.declared.Events.{Events}
 use Rattle.sweep.specs.declared.Swept.{Swept}
 use Rattle.sweep.specs.SweepCalls.{SweptTo}
-use Rattle.claims.specs.Calls.{Call, lookup, start, fill, insert, get, at, remove, clear, sweep, next, Answer, refused, done, looked, got, swept, answer, answers, tableAfter}
+use Rattle.claims.specs.Calls.{Call, lookup, start, fill, insert, get, at, remove, clear, sweep, advertise, Heard, silence, address, next, Answer, refused, done, looked, got, swept, apart, answer, answers, tableAfter}
 use Rattle.claims.specs.Watch.{gone, reportsAll, toldRun}
 
 -- the functions' answers
@@ -54,6 +63,22 @@ abbrev pub ofSweep : ℕ → Events → Outcome → Answer
 ofSweep i v (Refused why) = refused why
 ofSweep i v Done = swept i (eventList v)
 
+-- what an advertisement tells of its sender: nothing if it is refused, or SLAAC is off; else step 5's address
+abbrev pub heardAddr : LinkLayerAddr → Heard
+heardAddr NoAddr = silence
+heardAddr (IsAddr h) = cond (isUnicastHardware h) (address h) silence
+
+abbrev pub heardMessage : Check → LinkLayerAddr → Heard
+heardMessage (Fails why) l = silence
+heardMessage Fine l = heardAddr l
+
+abbrev pub heardBy : Check → Bool → Check → LinkLayerAddr → Heard
+heardBy (Fails why) on message l = silence
+heardBy Fine on message l = cond on (heardMessage message l) silence
+
+abbrev pub heardIn : Slaac → ℕ → Ipv6Addr → List ℕ → Instant → Heard
+heardIn s i source msg now = heardBy (callCheck now i) (s .on) (messageCheck source msg) (lastSource (optionsIn msg))
+
 -- one call on a cache that its function's promise allows, with its answer and the cache after it
 pub data Step : NeighborCache → Call → Answer → NeighborCache → Type 0 where
   looks-up : (c : NeighborCache) (i : ℕ) (a : Ipv6Addr) (r : Found) → LookedUp c i a r → Step c (lookup (key i a)) (ofLookup r) c
@@ -66,6 +91,8 @@ pub data Step : NeighborCache → Call → Answer → NeighborCache → Type 0 w
   lists : (c : NeighborCache) (n : ℕ) (r : Got) → r ≡ atIndex c n → Step c (at n) (ofGot r) c
   removes : (c : NeighborCache) (i : ℕ) (a : Ipv6Addr) (r : Removed) → RemovedTo c i a r → Step c (remove (key i a)) (ofGot (r .taken)) (r .cache)
   clears : (c : NeighborCache) (i : ℕ) (r : Changed) → clearTo c i r → Step c (clear i) (ofOutcome (r .outcome)) (r .cache)
+  advertises : (c : NeighborCache) (s : Slaac) (i : ℕ) (source : Ipv6Addr) (msg : List ℕ) (now : Instant) (r : Advertised) → AdvertisedTo s c i source msg now r
+      → Step c (advertise (key i source) now (heardIn s i source msg now)) apart (r .cache)
   sweeps : (c : NeighborCache) (k : Clock) (i : ℕ) (r : Swept) → SweptTo c k i r → Step c (sweep i (k .now)) (ofSweep i (r .events) (r .outcome)) (r .cache)
 
 -- calls one after the other

@@ -108,13 +108,15 @@ next c t = does (effect c) t
 
 -- Answers
 
--- the events of a sweep come with its interface: an event's key is that interface and its address
+-- the events of a sweep come with its interface: an event's key is that interface and its address;
+-- what an advertisement and turning SLAAC off answer is no matter of the cache
 pub data Answer : Type 0 where
   refused : Refusal → Answer
   done : Answer
   looked : Found → Answer
   got : Got → Answer
   swept : ℕ → List ProbeEvent → Answer
+  apart : Answer
 
 abbrev pub reply : Call → Table → Answer
 reply (lookup k) t = looked (firstOf (isKey k) answerIn NotFound t)
@@ -126,8 +128,8 @@ reply (at n) t = got (cond (ltb n (length t)) (shown (getD t n blank)) Nothing)
 reply (remove k) t = got (cond (ltb (find k t) (length t)) (shown (getD t (find k t) blank)) Nothing)
 reply (clear i) t = done
 reply (sweep i now) t = swept i (sweepTable i now t .events)
-reply (advertise k now heard) t = done
-reply (turnOff i went) t = done
+reply (advertise k now heard) t = apart
+reply (turnOff i went) t = apart
 
 abbrev pub answerBy : Check → Call → Table → Answer
 answerBy (Fails why) c t = refused why

@@ -1,12 +1,23 @@
 -- Document 01: "The clock is lent to each part in turn, and each may only bring its deadline forward." Said of the calls that are lent it.
 -- Assumes nothing.
 use Prim.Native.Nat.{ℕ}
+use mathlib.Core.Bool.{Bool}
+use mathlib.Core.List.{List}
 use Rattle.time.specs.declared.Clock.{Clock}
 use Rattle.time.specs.Forward.{Forward}
 use Rattle.neighbor.specs.declared.NeighborCache.{NeighborCache}
 use Rattle.sweep.specs.declared.Swept.{Swept}
 use Rattle.sweep.specs.SweepCalls.{SweptTo}
+use Rattle.wire.specs.declared.ethernet.HardwareAddress.{HardwareAddress}
+use Rattle.iface.specs.declared.addr.IfaceAddrs.{IfaceAddrs}
+use Rattle.iface.specs.declared.route.Routes.{Routes}
+use Rattle.learned.specs.declared.Slaac.{Slaac}
+use Rattle.slaac.specs.declared.Polled.{Polled}
+use Rattle.slaac.specs.PollRules.{PolledTo}
 
 pub record Clocks : Type 0 where
   -- a sweep, refused ones too
   pub sweep : (c : NeighborCache) (k : Clock) (i : ℕ) (r : Swept) → SweptTo c k i r → Forward k (r .clock)
+  -- a poll, refused ones too
+  pub poll : (s : Slaac) (t : IfaceAddrs) (r : Routes) (i : ℕ) (up : Bool) (hw : HardwareAddress) (buf : List ℕ) (k : Clock) (p : Polled) (buf' : List ℕ)
+      → PolledTo s t r i up hw buf k p buf' → Forward k (p .clock)

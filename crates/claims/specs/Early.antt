@@ -1,12 +1,13 @@
 -- "An address gone early": no SLAAC address and no default route leaves before its time. Assumes nothing.
-use Prim.Native.Nat.{ℕ, _≤_}
+use Prim.Native.Nat.{ℕ, _≤_, _<_}
 use mathlib.Core.Path.{_≡_}
 use mathlib.Core.Bool.{Bool, true, false}
 use mathlib.Core.List.{List, [], _∷_}
 use Rattle.table.specs.Table.{anyOf, firstOf}
 use Rattle.time.specs.declared.Instant.{Instant}
 use Rattle.time.specs.declared.Duration.{Duration}
-use Rattle.time.specs.TimeRules.{addOf}
+use Rattle.time.specs.declared.Clock.{Clock}
+use Rattle.time.specs.TimeRules.{addOf, secondsOf}
 use Rattle.wire.specs.declared.ipv6.Ipv6Addr.{Ipv6Addr}
 use Rattle.wire.specs.declared.ipv6.Ipv6Cidr.{Ipv6Cidr}
 use Rattle.wire.specs.declared.ipv6.Formed.the-variants.{Addr}
@@ -14,18 +15,72 @@ use Rattle.wire.specs.declared.ethernet.HardwareAddress.{HardwareAddress}
 use Rattle.wire.specs.Rfc2464.{formedOf}
 use Rattle.wire.specs.Rfc4291.{sameAddr}
 use Rattle.ndisc.specs.declared.ndiscoption.PrefixInformation.{PrefixInformation}
+use Rattle.ndisc.specs.Rfc4861Messages.{routerAdvertAt}
+use Rattle.neighbor.specs.declared.NeighborCache.{NeighborCache}
 use Rattle.iface.specs.declared.addr.IfaceAddr.{IfaceAddr}
+use Rattle.iface.specs.declared.addr.IfaceAddrs.{IfaceAddrs}
+use Rattle.iface.specs.declared.addr.Added.{Added}
 use Rattle.iface.specs.declared.route.Route.{Route}
-use Rattle.iface.specs.AddressRules.{isAddr, isFromSlaac}
-use Rattle.iface.specs.RouteRules.{isInstalled}
+use Rattle.iface.specs.declared.route.Routes.{Routes}
+use Rattle.iface.specs.declared.route.AddedRoute.{AddedRoute}
+use Rattle.iface.specs.AddressRules.{addrsOf, isAddr, isFromSlaac, AddedTo}
+use Rattle.iface.specs.RouteRules.{routesOf, isInstalled, AddedRouteTo}
 use Rattle.learned.specs.declared.Prefix.{Prefix}
 use Rattle.learned.specs.declared.Router.{Router}
-use Rattle.learned.specs.LearnedRules.{isSkipped, cidrOf, prefixOf}
+use Rattle.learned.specs.declared.Slaac.{Slaac}
+use Rattle.learned.specs.declared.Changed.{Changed}
+use Rattle.learned.specs.LearnedRules.{prefixesOf, routersOf, isSkipped, cidrOf, prefixOf}
+use Rattle.learned.specs.DiscoveryRules.{RestartedTo, TurnedOnTo}
+use Rattle.slaac.specs.declared.Advertised.{Advertised}
+use Rattle.slaac.specs.declared.Polled.{Polled}
+use Rattle.slaac.specs.SlaacRules.{optionsIn, prefixOptions, AdvertisedTo}
+use Rattle.slaac.specs.PollRules.{PolledTo}
 
 -- each entry is so
 abbrev pub All : {A : Type 0} → (A → Type 0) → List A → Type 0
 All P [] = Unit {0}
 All P (x ∷ xs) = P x × All P xs
+
+-- Calls, as one interface sees them
+
+-- what SLAAC learned on the interface, its addresses, and the routes, which the interfaces share
+pub record Host : Type 0 where
+  pub slaac : Slaac
+  pub addrs : IfaceAddrs
+  pub routes : Routes
+
+pub data HostCall : Type 0 where
+  -- an advertisement: source, message, now
+  advertise : Ipv6Addr → List ℕ → Instant → HostCall
+  poll : Instant → HostCall
+  restart : HostCall
+  turnOn : HostCall
+  -- the application adds an address, or a route of any interface
+  addAddr : HostCall
+  addRoute : HostCall
+  -- another interface is polled
+  pollElsewhere : HostCall
+
+-- one call that its function's promise allows, on interface i with hardware address hw
+pub data Step (i : ℕ) (hw : HardwareAddress) : Host → HostCall → Host → Type 0 where
+  advertised : (x : Host) (c : NeighborCache) (source : Ipv6Addr) (msg : List ℕ) (now : Instant) (r : Advertised) → AdvertisedTo (x .slaac) c i source msg now r
+      → Step i hw x (advertise source msg now) (record { slaac = r .slaac; addrs = x .addrs; routes = x .routes })
+  polled : (x : Host) (up : Bool) (buf buf' : List ℕ) (k : Clock) (r : Polled) → PolledTo (x .slaac) (x .addrs) (x .routes) i up hw buf k r buf'
+      → Step i hw x (poll (k .now)) (record { slaac = r .slaac; addrs = r .addrs; routes = r .routes })
+  restarted : (x : Host) (r : Changed) → RestartedTo (x .slaac) i r → Step i hw x restart (record { slaac = r .slaac; addrs = x .addrs; routes = x .routes })
+  turned-on : (x : Host) (r : Changed) → TurnedOnTo (x .slaac) i r → Step i hw x turnOn (record { slaac = r .slaac; addrs = x .addrs; routes = x .routes })
+  addr-added : (x : Host) (c : Ipv6Cidr) (r : Added) → AddedTo (x .addrs) i c r
+      → Step i hw x addAddr (record { slaac = x .slaac; addrs = r .addrs; routes = x .routes })
+  route-added : (x : Host) (j : ℕ) (c : Ipv6Cidr) (via : Ipv6Addr) (r : AddedRoute) → AddedRouteTo (x .routes) j c via r
+      → Step i hw x addRoute (record { slaac = x .slaac; addrs = x .addrs; routes = r .routes })
+  polled-elsewhere : (x : Host) (j : ℕ) (s : Slaac) (t : IfaceAddrs) (up : Bool) (h : HardwareAddress) (buf buf' : List ℕ) (k : Clock) (r : Polled) → (j ≡ i → ⊥)
+      → PolledTo s t (x .routes) j up h buf k r buf'
+      → Step i hw x pollElsewhere (record { slaac = x .slaac; addrs = x .addrs; routes = r .routes })
+
+-- calls one after the other
+pub data Run (i : ℕ) (hw : HardwareAddress) : Host → List HostCall → Host → Type 0 where
+  none : (x : Host) → Run i hw x [] x
+  one-more : {x y z : Host} {c : HostCall} {cs : List HostCall} → Step i hw x c y → Run i hw y cs z → Run i hw x (c ∷ cs) z
 
 -- Addresses
 
@@ -41,6 +96,29 @@ LastsTo v hw a p = formedOf hw (p .cidr) ≡ Addr a → v ≤ p .«valid_until»
 abbrev pub Spares : ℕ → HardwareAddress → Ipv6Cidr → Instant → PrefixInformation → Type 0
 Spares v hw a now o = isSkipped o ≡ false → LastsTo v hw a (prefixOf o now)
 
+-- a call that does not end the address before v: a poll before v, an advertisement whose prefixes spare it, and any other
+abbrev pub Harmless : ℕ → HardwareAddress → Ipv6Cidr → HostCall → Type 0
+Harmless v hw a (advertise source msg now) = All (Spares v hw a now) (prefixOptions (optionsIn msg))
+Harmless v hw a (poll now) = now .0 < v
+Harmless v hw a restart = Unit {0}
+Harmless v hw a turnOn = Unit {0}
+Harmless v hw a addAddr = Unit {0}
+Harmless v hw a addRoute = Unit {0}
+Harmless v hw a pollElsewhere = Unit {0}
+
+-- the same without times: a poll before v, an advertisement that names no prefix that forms the address, and any other
+abbrev pub Names : HardwareAddress → Ipv6Cidr → PrefixInformation → Type 0
+Names hw a o = (isSkipped o ≡ false) × (formedOf hw (cidrOf o) ≡ Addr a)
+
+abbrev pub Silent : ℕ → HardwareAddress → Ipv6Cidr → HostCall → Type 0
+Silent v hw a (advertise source msg now) = All (λ o. Names hw a o → ⊥) (prefixOptions (optionsIn msg))
+Silent v hw a (poll now) = now .0 < v
+Silent v hw a restart = Unit {0}
+Silent v hw a turnOn = Unit {0}
+Silent v hw a addAddr = Unit {0}
+Silent v hw a addRoute = Unit {0}
+Silent v hw a pollElsewhere = Unit {0}
+
 -- Routes
 
 -- the interface's default route by that router is there, and SLAAC's
@@ -54,3 +132,31 @@ RouterLastsTo v via r = sameAddr (r .addr) via ≡ true → v ≤ r .«valid_unt
 -- if the advertisement is that router's, its lifetime ends at v or later
 abbrev pub RouterSpares : ℕ → Ipv6Addr → Instant → Ipv6Addr → Duration → Type 0
 RouterSpares v via now source lifetime = sameAddr source via ≡ true → v ≤ addOf now lifetime .0
+
+abbrev pub HarmlessTo : ℕ → Ipv6Addr → HostCall → Type 0
+HarmlessTo v via (advertise source msg now) = RouterSpares v via now source (secondsOf (routerAdvertAt msg .«router_lifetime»))
+HarmlessTo v via (poll now) = now .0 < v
+HarmlessTo v via restart = Unit {0}
+HarmlessTo v via turnOn = Unit {0}
+HarmlessTo v via addAddr = Unit {0}
+HarmlessTo v via addRoute = Unit {0}
+HarmlessTo v via pollElsewhere = Unit {0}
+
+-- The claim. Turning SLAAC off on the interface is no call of these runs: it "removes its addresses and routes".
+
+pub record NotEarly : Type 0 where
+  -- A SLAAC address stands, and every prefix of the table that forms it is valid until v or longer. Whatever advertisements come that do not
+  -- say otherwise of such a prefix, whatever the application adds and however often discovery restarts: before a poll at v or later it stands.
+  pub address : (i : ℕ) (hw : HardwareAddress) (a : Ipv6Cidr) (v : ℕ) (x y : Host) (cs : List HostCall) → Run i hw x cs y
+      → stands a (addrsOf (x .addrs)) ≡ true → All (LastsTo v hw a) (prefixesOf (x .slaac)) → All (Harmless v hw a) cs
+      → stands a (addrsOf (y .addrs)) ≡ true
+  -- The same for one prefix: it is the only one of the table that forms the address, and no advertisement names it or another that does.
+  pub address-of : (i : ℕ) (hw : HardwareAddress) (a : Ipv6Cidr) (p : Prefix) (x y : Host) (cs : List HostCall) → Run i hw x cs y
+      → stands a (addrsOf (x .addrs)) ≡ true → All (λ q. formedOf hw (q .cidr) ≡ Addr a → q ≡ p) (prefixesOf (x .slaac))
+      → All (Silent (p .«valid_until» .0) hw a) cs
+      → stands a (addrsOf (y .addrs)) ≡ true
+  -- A router's default route stands, and the router's entry lasts until v or longer. Whatever other routers advertise, other interfaces
+  -- do and the application adds: before a poll at v or later it stands.
+  pub route : (i : ℕ) (hw : HardwareAddress) (via : Ipv6Addr) (v : ℕ) (x y : Host) (cs : List HostCall) → Run i hw x cs y
+      → routeStands i via (routesOf (x .routes)) ≡ true → All (RouterLastsTo v via) (routersOf (x .slaac)) → All (HarmlessTo v via) cs
+      → routeStands i via (routesOf (y .routes)) ≡ true

@@ -1,8 +1,10 @@
+pub mod Claims
 pub mod Calls
 pub mod Watch
 pub mod Demand3
 pub mod Traces
 pub mod Caches
+pub mod Places
 pub mod Clocks
 pub mod Early
 pub mod Examples

@@ -1,0 +1,20 @@
+-- Every claim holds. Assumes nothing.
+use Rattle.claims.specs.Claims.{Claims}
+use Rattle.claims.proofs.Demand3.{demand3}
+use Rattle.claims.proofs.Traces.{traces}
+use Rattle.claims.proofs.Caches.{on-caches}
+use Rattle.claims.proofs.Places.{places}
+use Rattle.claims.proofs.Clocks.{clocks}
+use Rattle.claims.proofs.Early.{not-early}
+use Rattle.claims.proofs.Examples.{examples}
+
+pub claims : Claims
+claims = record {
+  demand3 = demand3;
+  traces = traces;
+  on-caches = on-caches;
+  places = places;
+  clocks = clocks;
+  not-early = not-early;
+  examples = examples;
+}

@@ -1,0 +1,97 @@
+-- The places of the cache, in words. Assumes nothing.
+use Prim.Native.Nat.{ℕ, suc, _≤_, _<_}
+use native.Mathlib.Omega.{arith}
+use mathlib.Core.Path.{_≡_, refl, sym, ap, _∙_, subst}
+use mathlib.Core.Logic.{_⊎_, inl, inr}
+use mathlib.Core.Bool.{Bool, true, false, cond, true≢false, _&&_}
+use mathlib.Core.List.{List, [], _∷_}
+use lib.ListN.{length, getD, set, drop}
+use lib.Seq.{drop-cons, drop-length}
+use lib.Dec.{eqb, leb}
+use borrow.Author.Tests.{eqb-true, eq-eqb, leb-true, le-leb}
+use Rattle.table.specs.First.{FirstAt, NoneFrom, FirstFromLaw}
+use Rattle.table.specs.Table.{swapRemove, firstFrom}
+use Rattle.table.proofs.First.{first-from-law}
+use Rattle.time.specs.declared.Instant.{Instant}
+use Rattle.neighbor.specs.declared.State.{State}
+use Rattle.neighbor.specs.declared.State.the-variants.{Started, Incomplete, Reachable, Stale}
+use Rattle.neighbor.specs.declared.Entry.{Entry}
+use Rattle.neighbor.specs.NeighborRules.{Table, onIface}
+use Rattle.neighbor.specs.CacheCalls.{blank}
+use Rattle.neighbor.proofs.Eviction.{eviction-law, find-law}
+use Rattle.neighbor.proofs.Keys.{and-true}
+use Rattle.sweep.specs.declared.ProbeEvent.the-variants.{Retransmit, Failed}
+use Rattle.sweep.specs.SweepRules.{dueState, due, spentState, spent, probed, nothing, happens, probeAt, probe}
+use Rattle.claims.specs.Places.{DueNow, NoneLeft, Places}
+
+-- The tests
+
+is-due : (i : ℕ) (now : Instant) (e : Entry) → due i now e ≡ true → DueNow i now e
+unfolding due onIface
+is-due i now e h = go (e .state) refl (and-true (eqb i (e .iface)) (dueState now (e .state)) h .1)
+  where
+    here : i ≡ e .iface
+    here = eqb-true i (e .iface) (and-true (eqb i (e .iface)) (dueState now (e .state)) h .0)
+
+    go : (s : State) → e .state ≡ s → dueState now s ≡ true → DueNow i now e
+    go Started q d = absurd (true≢false (sym d))
+    go (Incomplete p t) q d = record { of-iface = here; probes = p; time = t; incomplete = q; come = leb-true (t .0) (now .0) d }
+    go (Reachable x t) q d = absurd (true≢false (sym d))
+    go (Stale x) q d = absurd (true≢false (sym d))
+
+due-is : (i : ℕ) (now : Instant) (e : Entry) → DueNow i now e → due i now e ≡ true
+unfolding due onIface
+due-is i now e h = rw (h .incomplete, eq-eqb i (e .iface) (h .of-iface), le-leb (h .time .0) (now .0) (h .come))
+
+is-spent : (e : Entry) → spent e ≡ true → NoneLeft e
+unfolding spent
+is-spent e h = go (e .state) refl h
+  where
+    go : (s : State) → e .state ≡ s → spentState s ≡ true → NoneLeft e
+    go Started q d = absurd (true≢false (sym d))
+    go (Incomplete p t) q d = record { probes = p; time = t; incomplete = q; three = leb-true 3 p d }
+    go (Reachable x t) q d = absurd (true≢false (sym d))
+    go (Stale x) q d = absurd (true≢false (sym d))
+
+spent-is : (e : Entry) → NoneLeft e → spent e ≡ true
+unfolding spent
+spent-is e h = rw (h .incomplete, le-leb 3 (h .probes) (h .three))
+
+-- The probe
+
+module _ (i : ℕ) (now : Instant) (t : Table) (place j : ℕ) (h : FirstAt blank (due i now) place t j) where
+  found : probe i now t place ≡ probeAt now j t (getD t j blank ∷ drop (suc j) t)
+  unfolding probe
+  found =
+      ap (λ (n : ℕ). probeAt now n t (drop n t)) (sym (first-from-law .only blank (due i now) place t j h))
+      ∙ ap (probeAt now j t) (drop-cons t j blank (h .inside))
+
+  fails : spent (getD t j blank) ≡ true → probe i now t place ≡ happens (Failed (getD t j blank .addr)) (swapRemove j t) j
+  fails s = found ∙ rw s
+
+  sends : spent (getD t j blank) ≡ false → probe i now t place ≡ happens (Retransmit (getD t j blank .addr)) (set t j (probed now (getD t j blank))) (suc j)
+  sends s = found ∙ rw s
+
+none : (i : ℕ) (now : Instant) (t : Table) (place : ℕ) → NoneFrom blank (due i now) place t (length t) → probe i now t place ≡ nothing
+unfolding probe
+none i now t place h = go (first-from-law .is blank (due i now) place t)
+  where
+    at-end : firstFrom (due i now) place t ≡ length t → probeAt now (firstFrom (due i now) place t) t (drop (firstFrom (due i now) place t) t) ≡ nothing
+    at-end e = rw (e, drop-length t)
+
+    go : FirstAt blank (due i now) place t (firstFrom (due i now) place t) ⊎ NoneFrom blank (due i now) place t (firstFrom (due i now) place t)
+        → probeAt now (firstFrom (due i now) place t) t (drop (firstFrom (due i now) place t) t) ≡ nothing
+    go (inl f) = absurd (true≢false (sym (f .passes) ∙ h .none (firstFrom (due i now) place t) (f .from) (f .inside)))
+    go (inr n) = at-end (n .end)
+
+pub places : Places
+places = record {
+  evicted = eviction-law;
+  key = find-law;
+  first = first-from-law;
+  due-means = λ i now e. (is-due i now e, due-is i now e);
+  spent-means = λ e. (is-spent e, spent-is e);
+  fails = fails;
+  sends = sends;
+  none = none;
+}

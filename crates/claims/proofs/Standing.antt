@@ -1,0 +1,323 @@
+-- What keeps an address, a route, a prefix and a router in their tables. Assumes nothing.
+use Prim.Native.Nat.{ℕ, _+_, _*_, _≤_, _<_, min}
+use borrow.Author.Tests.{eqb-true, eq-eqb, ltb-false}
+use lib.Dec.{eqb, ltb}
+use lib.ListN.{length, take, drop}
+use lib.Seq.{take-at}
+use mathlib.Core.Bool.{Bool, true, false, cond, _&&_, true≢false}
+use mathlib.Core.List.{List, [], _∷_, _++_}
+use mathlib.Core.Path.{_≡_, refl, sym, ap, _∙_, subst}
+use native.Mathlib.Omega.{arith}
+use Rattle.neighbor.proofs.Keys.{and-true}
+use Rattle.claims.specs.Early.{All, stands, LastsTo, Spares, routeStands, RouterLastsTo, RouterSpares}
+use Rattle.iface.specs.AddressRules.{isAddr, isFromSlaac, slaacAddr, refreshed, gone, putAddr, dropAddr, anywhere}
+use Rattle.iface.specs.RouteRules.{isSlaac, isRoute, isInstalled, isLearned, extended, noneLeft, putRoute, dropRoute, clearRoutes}
+use Rattle.iface.specs.declared.addr.IfaceAddr.{IfaceAddr}
+use Rattle.iface.specs.declared.addr.Preferred.{Preferred}
+use Rattle.iface.specs.declared.route.Route.{Route}
+use Rattle.learned.specs.ExpiryRules.{isValid, prefixGone, routerGone, leaveExpired}
+use Rattle.learned.specs.LearnedRules.{prefixesOf, routersOf, ifRoom, isSkipped, isPrefix, cidrOf, prefixOf, putOver, addPrefix, prefixEnds, expirePrefix, processPrefix, isRouter, addRouter, routerEnds, expireRouter, processRouter}
+use Rattle.learned.specs.declared.Prefix.{Prefix}
+use Rattle.learned.specs.declared.Router.{Router}
+use Rattle.learned.specs.declared.Slaac.{Slaac}
+use Rattle.ndisc.specs.declared.ndiscoption.PrefixInformation.{PrefixInformation}
+use Rattle.table.specs.Table.{filled, kept, atFirst, anyOf}
+use Rattle.time.specs.TimeRules.{addOf}
+use Rattle.time.specs.declared.Duration.{Duration}
+use Rattle.time.specs.declared.Instant.{Instant}
+use Rattle.wire.specs.Rfc2464.{formedOf}
+use Rattle.wire.specs.Rfc4291.{sameAddr, sameCidr}
+use Rattle.wire.specs.declared.ethernet.HardwareAddress.{HardwareAddress}
+use Rattle.wire.specs.declared.ipv6.Formed.the-variants.{Addr}
+use Rattle.wire.specs.declared.ipv6.Ipv6Addr.{Ipv6Addr}
+use Rattle.wire.specs.declared.ipv6.Ipv6Cidr.{Ipv6Cidr}
+
+-- Equal addresses, tested and stated
+
+same-addr : (a b : Ipv6Addr) → sameAddr a b ≡ true → a ≡ b
+same-addr a b e = λ i. record { hi = eqb-true (a .hi) (b .hi) (x .0) i; lo = eqb-true (a .lo) (b .lo) (x .1) i }
+  where
+    x : (eqb (a .hi) (b .hi) ≡ true) × (eqb (a .lo) (b .lo) ≡ true)
+    x = and-true _ _ e
+
+same-cidr : (a b : Ipv6Cidr) → sameCidr a b ≡ true → a ≡ b
+same-cidr a b e =
+    λ i. record { address = same-addr (a .address) (b .address) (x .0) i; «prefix_len» = eqb-true (a .«prefix_len») (b .«prefix_len») (x .1) i }
+  where
+    x : (sameAddr (a .address) (b .address) ≡ true) × (eqb (a .«prefix_len») (b .«prefix_len») ≡ true)
+    x = and-true _ _ e
+
+sameAddr-refl : (a : Ipv6Addr) → sameAddr a a ≡ true
+sameAddr-refl a = rw (eq-eqb (a .hi) (a .hi) refl, eq-eqb (a .lo) (a .lo) refl)
+
+-- Lists
+
+module _ {A : Type 0} (P : A → Type 0) where
+  all-append : (xs ys : List A) → All P xs → All P ys → All P (xs ++ ys)
+  all-append [] ys h g = g
+  all-append (x ∷ xs) ys h g = (h .0, all-append xs ys (h .1) g)
+
+  pub all-kept : (test : A → Bool) (xs : List A) → All P xs → All P (kept test xs)
+  all-kept test [] h = tt
+  all-kept test (x ∷ xs) h = go (test x) (all-kept test xs (h .1))
+    where
+      go : (b : Bool) → All P (kept test xs) → All P (cond b (kept test xs) (x ∷ kept test xs))
+      go true r = r
+      go false r = (h .0, r)
+
+  pub all-first : (test : A → Bool) (f : A → List A) (new xs : List A) → All P xs → All P new
+      → ((x : A) → test x ≡ true → P x → All P (f x)) → All P (atFirst test f new xs)
+  all-first test f new [] h n m = n
+  all-first test f new (x ∷ xs) h n m = go (test x) refl (all-first test f new xs (h .1) n m)
+    where
+      go : (b : Bool) → test x ≡ b → All P (atFirst test f new xs) → All P (cond b (f x ++ xs) (x ∷ atFirst test f new xs))
+      go true e r = all-append (f x) xs (m x e (h .0)) (h .1)
+      go false e r = (h .0, r)
+
+  all-if : (b : Bool) (x : A) → P x → All P (cond b (x ∷ []) [])
+  all-if true x h = (h, tt)
+  all-if false x h = tt
+
+-- The address table
+
+lift : (y a u v : Bool) → (u ≡ true → v ≡ true) → cond y a u ≡ true → cond y a v ≡ true
+lift true a u v f h = h
+lift false a u v f h = f h
+
+other : (e c a : Ipv6Cidr) → sameCidr e c ≡ true → sameCidr c a ≡ false → sameCidr e a ≡ false
+other e c a p q = ap (λ (x : Ipv6Cidr). sameCidr x a) (same-cidr e c p) ∙ q
+
+first-keeps : (a c : Ipv6Cidr) (p : Preferred) (new es : List IfaceAddr) → stands a es ≡ true → stands a (atFirst (isAddr c) (refreshed p) new es) ≡ true
+first-keeps a c p new [] h = absurd (true≢false (sym h))
+first-keeps a c p new (e ∷ es) h = go (isAddr c e) (first-keeps a c p new es)
+  where
+    same : (b : Bool) → isFromSlaac e ≡ b → stands a (cond b (slaacAddr (e .cidr) p ∷ []) (e ∷ []) ++ es) ≡ true
+    same true q = turned (isAddr a e) (rw q at h)
+      where
+        turned : (y : Bool) → cond y true (stands a es) ≡ true → cond y true (stands a es) ≡ true
+        turned y r = r
+    same false q = h
+
+    go : (x : Bool) → (stands a es ≡ true → stands a (atFirst (isAddr c) (refreshed p) new es) ≡ true)
+        → stands a (cond x (refreshed p e ++ es) (e ∷ atFirst (isAddr c) (refreshed p) new es)) ≡ true
+    go true f = same (isFromSlaac e) refl
+    go false f = lift (isAddr a e) _ _ _ f h
+
+pub put-stands : (a c : Ipv6Cidr) (p : Preferred) (es : List IfaceAddr) → stands a es ≡ true → stands a (putAddr c p es) ≡ true
+unfolding putAddr
+put-stands a c p es h = first-keeps a c p _ es h
+
+first-drops : (a c : Ipv6Cidr) → sameCidr c a ≡ false → (es : List IfaceAddr) → stands a es ≡ true → stands a (atFirst (isAddr c) gone [] es) ≡ true
+first-drops a c n [] h = absurd (true≢false (sym h))
+first-drops a c n (e ∷ es) h = go (isAddr c e) refl (first-drops a c n es)
+  where
+    less : (b : Bool) → isAddr c e ≡ true → stands a (cond b [] (e ∷ []) ++ es) ≡ true
+    less true q = ap (λ (y : Bool). cond y (isFromSlaac e) (stands a es)) (sym (other (e .cidr) c a q n)) ∙ h
+    less false q = h
+
+    go : (x : Bool) → isAddr c e ≡ x → (stands a es ≡ true → stands a (atFirst (isAddr c) gone [] es) ≡ true)
+        → stands a (cond x (gone e ++ es) (e ∷ atFirst (isAddr c) gone [] es)) ≡ true
+    go true q f = less (isFromSlaac e) q
+    go false q f = lift (isAddr a e) _ _ _ f h
+
+pub drop-stands : (a c : Ipv6Cidr) → sameCidr c a ≡ false → (es : List IfaceAddr) → stands a es ≡ true → stands a (dropAddr c es) ≡ true
+unfolding dropAddr
+drop-stands a c n es h = first-drops a c n es h
+
+pub add-stands : (a : Ipv6Cidr) (e : IfaceAddr) (es : List IfaceAddr) → stands a es ≡ true → stands a (es ++ (e ∷ [])) ≡ true
+add-stands a e [] h = absurd (true≢false (sym h))
+add-stands a e (x ∷ es) h = lift (isAddr a x) (isFromSlaac x) (stands a es) _ (add-stands a e es) h
+
+-- The prefix table
+
+pub entries-with : {A : Type 0} (s xs : List A) → take (length xs) (filled s xs) ≡ xs
+entries-with s xs = take-at xs (drop (length xs) s) (length xs) refl
+
+all-with : {A : Type 0} (P : A → Type 0) (s xs : List A) → All P xs → All P (take (length xs) (filled s xs))
+all-with P s xs h = rw (entries-with s xs) h
+
+module _ (v : ℕ) (hw : HardwareAddress) (a : Ipv6Cidr) where
+  abbrev lasts : Prefix → Type 0
+  lasts = LastsTo v hw a
+
+  add-lasts : (s : Slaac) (p : Prefix) → All lasts (prefixesOf s) → lasts p → All lasts (prefixesOf (addPrefix s p))
+  unfolding addPrefix
+  add-lasts s p h g =
+      all-with lasts (s .prefixes) (atFirst (isPrefix (p .cidr)) (putOver p) (ifRoom 4 (prefixesOf s) p) (prefixesOf s))
+      (all-first lasts (isPrefix (p .cidr)) (putOver p) (ifRoom 4 (prefixesOf s) p) (prefixesOf s) h (all-if lasts (ltb (length (prefixesOf s)) 4) p g) (λ x e q. (g, tt)))
+
+  expire-lasts : (s : Slaac) (c : Ipv6Cidr) (now : Instant) → All lasts (prefixesOf s) → (formedOf hw c ≡ Addr a → v ≤ now .0)
+      → All lasts (prefixesOf (expirePrefix s c now))
+  unfolding expirePrefix
+  expire-lasts s c now h g =
+      all-with lasts (s .prefixes) (atFirst (isPrefix c) (prefixEnds now) [] (prefixesOf s))
+      (all-first lasts (isPrefix c) (prefixEnds now) [] (prefixesOf s) h tt
+      (λ x e q. ((λ f. g (ap (formedOf hw) (sym (same-cidr (x .cidr) c e)) ∙ f)), tt)))
+
+  pub process-lasts : (now : Instant) (s : Slaac) (o : PrefixInformation) → All lasts (prefixesOf s) → Spares v hw a now o
+      → All lasts (prefixesOf (processPrefix now s o))
+  unfolding processPrefix
+  process-lasts now s o h g = go (isSkipped o) (ltb 0 (o .«valid_lifetime»)) refl refl
+    where
+      at-once : o .«valid_lifetime» ≤ 0 → v ≤ min (now .0 + o .«valid_lifetime» * 1000) 0xffff_ffff_ffff_ffff → v ≤ now .0
+      at-once z e = omega arith
+
+      go : (x y : Bool) → isSkipped o ≡ x → ltb 0 (o .«valid_lifetime») ≡ y
+          → All lasts (prefixesOf (cond {A = Slaac} x s (cond {A = Slaac} y (addPrefix s (prefixOf o now)) (expirePrefix s (cidrOf o) now))))
+      go true y ex ey = h
+      go false true ex ey = add-lasts s (prefixOf o now) h (g ex)
+      go false false ex ey = expire-lasts s (cidrOf o) now h (λ f. at-once (ltb-false 0 (o .«valid_lifetime») ey) (g ex f))
+
+  pub leave-lasts : (now : Instant) (s : Slaac) → All lasts (prefixesOf s) → All lasts (prefixesOf (leaveExpired now s))
+  unfolding leaveExpired
+  leave-lasts now s h = all-with lasts (s .prefixes) (kept (prefixGone now) (prefixesOf s)) (all-kept lasts (prefixGone now) (prefixesOf s) h)
+
+  -- what a router's entry and the flags do leaves the prefixes
+  pub router-apart : (now : Instant) (s : Slaac) (source : Ipv6Addr) (d : Duration) → prefixesOf (processRouter now s source d) ≡ prefixesOf s
+  unfolding processRouter addRouter expireRouter
+  router-apart now s source d = go (ltb 0 (d .0))
+    where
+      go : (x : Bool) → prefixesOf (cond {A = Slaac} x (addRouter s (record { addr = source; «valid_until» = addOf now d })) (expireRouter s source now)) ≡ prefixesOf s
+      go true = refl
+      go false = refl
+
+-- The routes
+
+module _ {A : Type 0} (seen : A → Bool) where
+  any-append : (xs ys : List A) → anyOf seen xs ≡ true → anyOf seen (xs ++ ys) ≡ true
+  any-append [] ys h = absurd (true≢false (sym h))
+  any-append (x ∷ xs) ys h = lift (seen x) true (anyOf seen xs) _ (any-append xs ys) h
+
+  any-after : (xs ys : List A) → anyOf seen ys ≡ true → anyOf seen (xs ++ ys) ≡ true
+  any-after [] ys h = h
+  any-after (x ∷ xs) ys h = go (seen x) (any-after xs ys h)
+    where
+      go : (b : Bool) → anyOf seen (xs ++ ys) ≡ true → cond b true (anyOf seen (xs ++ ys)) ≡ true
+      go true r = refl
+      go false r = r
+
+  any-first : (test : A → Bool) (f : A → List A) (new xs : List A) → anyOf seen xs ≡ true
+      → ((x : A) → test x ≡ true → seen x ≡ true → anyOf seen (f x) ≡ true) → anyOf seen (atFirst test f new xs) ≡ true
+  any-first test f new [] h m = absurd (true≢false (sym h))
+  any-first test f new (x ∷ xs) h m = go (test x) refl (λ r. any-first test f new xs r m)
+    where
+      there : (b : Bool) → seen x ≡ b → test x ≡ true → cond b true (anyOf seen xs) ≡ true → anyOf seen (f x ++ xs) ≡ true
+      there true q e r = any-append (f x) xs (m x e q)
+      there false q e r = any-after (f x) xs r
+
+      go : (b : Bool) → test x ≡ b → (anyOf seen xs ≡ true → anyOf seen (atFirst test f new xs) ≡ true)
+          → anyOf seen (cond b (f x ++ xs) (x ∷ atFirst test f new xs)) ≡ true
+      go true e ih = there (seen x) refl e h
+      go false e ih = lift (seen x) true (anyOf seen xs) _ ih h
+
+  any-kept : (test : A → Bool) → ((x : A) → seen x ≡ true → test x ≡ false) → (xs : List A) → anyOf seen xs ≡ true → anyOf seen (kept test xs) ≡ true
+  any-kept test m [] h = h
+  any-kept test m (x ∷ xs) h = go (seen x) (test x) refl refl h (any-kept test m xs)
+    where
+      go : (b y : Bool) → seen x ≡ b → test x ≡ y → cond b true (anyOf seen xs) ≡ true → (anyOf seen xs ≡ true → anyOf seen (kept test xs) ≡ true)
+          → anyOf seen (cond y (kept test xs) (x ∷ kept test xs)) ≡ true
+      go true true q e r ih = absurd (true≢false (sym e ∙ m x q))
+      go true false q e r ih = rw q
+      go false true q e r ih = ih r
+      go false false q e r ih = rw q (ih r)
+
+-- a default route that is installed is of its interface and its router
+module _ (i : ℕ) (via : Ipv6Addr) (e : Route) (h : isInstalled i via e ≡ true) where
+  installed-route : isRoute i anywhere via e ≡ true
+  installed-route = and-true (isSlaac (e .origin)) (isRoute i anywhere via e) h .1
+
+  installed-here : e .iface ≡ i
+  installed-here =
+      eqb-true (e .iface) i
+      (and-true (eqb (e .iface) i) (sameCidr (e .cidr) anywhere)
+      (and-true (eqb (e .iface) i && sameCidr (e .cidr) anywhere) (sameAddr (e .«via_router») via) installed-route .0) .0)
+
+  installed-via : e .«via_router» ≡ via
+  installed-via =
+      same-addr (e .«via_router») via
+      (and-true (eqb (e .iface) i && sameCidr (e .cidr) anywhere) (sameAddr (e .«via_router») via) installed-route .1)
+
+-- so if it is two routers' it is one router's, of one interface
+same-route : (i j : ℕ) (via by : Ipv6Addr) (e : Route) → isInstalled j by e ≡ true → isInstalled i via e ≡ true → (j ≡ i) × (by ≡ via)
+same-route i j via by e p q = (sym (installed-here j by e p) ∙ installed-here i via e q, sym (installed-via j by e p) ∙ installed-via i via e q)
+
+pub put-route-stands : (i j : ℕ) (via by : Ipv6Addr) (t : Instant) (es : List Route) → routeStands i via es ≡ true → routeStands i via (putRoute j by t es) ≡ true
+unfolding putRoute
+put-route-stands i j via by t es h = any-first (isInstalled i via) (isInstalled j by) (extended t) _ es h (λ x e q. rw (installed-route i via x q))
+
+pub drop-route-stands : (i j : ℕ) (via by : Ipv6Addr) (es : List Route) → (j ≡ i → by ≡ via → ⊥) → routeStands i via es ≡ true
+    → routeStands i via (dropRoute j by es) ≡ true
+unfolding dropRoute
+drop-route-stands i j via by es n h =
+    any-first (isInstalled i via) (isInstalled j by) noneLeft [] es h (λ x e q. let z = same-route i j via by x e q in absurd (n (z .0) (z .1)))
+
+pub clear-route-stands : (i j : ℕ) (via : Ipv6Addr) (es : List Route) → (j ≡ i → ⊥) → routeStands i via es ≡ true → routeStands i via (clearRoutes j es) ≡ true
+unfolding clearRoutes
+clear-route-stands i j via es n h = any-kept (isInstalled i via) (isLearned j) (λ x q. spared x q (isLearned j x) refl) es h
+  where
+    spared : (x : Route) → isInstalled i via x ≡ true → (b : Bool) → isLearned j x ≡ b → b ≡ false
+    spared x q true e =
+        absurd (n (sym (eqb-true (x .iface) j (and-true (isSlaac (x .origin)) (eqb (x .iface) j) e .1)) ∙ installed-here i via x q))
+    spared x q false e = refl
+
+pub add-route-stands : (i : ℕ) (via : Ipv6Addr) (e : Route) (es : List Route) → routeStands i via es ≡ true → routeStands i via (es ++ (e ∷ [])) ≡ true
+add-route-stands i via e es h = any-append (isInstalled i via) es (e ∷ []) h
+
+-- The routers
+
+module _ (v : ℕ) (via : Ipv6Addr) where
+  abbrev stays : Router → Type 0
+  stays = RouterLastsTo v via
+
+  pub process-router : (now : Instant) (s : Slaac) (source : Ipv6Addr) (d : Duration) → All stays (routersOf s) → RouterSpares v via now source d
+      → All stays (routersOf (processRouter now s source d))
+  unfolding processRouter addRouter expireRouter
+  process-router now s source d h g = go (ltb 0 (d .0)) refl
+    where
+      new : Router
+      new = record { addr = source; «valid_until» = addOf now d }
+
+      at-once : d .0 ≤ 0 → v ≤ min (now .0 + d .0) 0xffff_ffff_ffff_ffff → v ≤ now .0
+      at-once z e = omega arith
+
+      go : (x : Bool) → ltb 0 (d .0) ≡ x → All stays (routersOf (cond {A = Slaac} x (addRouter s new) (expireRouter s source now)))
+      go true e =
+          all-with stays (s .routers) (atFirst (isRouter source) (putOver new) (ifRoom 2 (routersOf s) new) (routersOf s))
+          (all-first stays (isRouter source) (putOver new) (ifRoom 2 (routersOf s) new) (routersOf s) h (all-if stays (ltb (length (routersOf s)) 2) new g) (λ x e q. (g, tt)))
+      go false e =
+          all-with stays (s .routers) (atFirst (isRouter source) (routerEnds now) [] (routersOf s))
+          (all-first stays (isRouter source) (routerEnds now) [] (routersOf s) h tt
+          (λ x t q. ((λ f. at-once (ltb-false 0 (d .0) e) (g (subst (λ (y : Ipv6Addr). sameAddr y via ≡ true) (same-addr (x .addr) source t) f))), tt)))
+
+  pub leave-router : (now : Instant) (s : Slaac) → All stays (routersOf s) → All stays (routersOf (leaveExpired now s))
+  unfolding leaveExpired
+  leave-router now s h = all-with stays (s .routers) (kept (routerGone now) (routersOf s)) (all-kept stays (routerGone now) (routersOf s) h)
+
+  pub prefix-apart : (now : Instant) (s : Slaac) (o : PrefixInformation) → routersOf (processPrefix now s o) ≡ routersOf s
+  unfolding processPrefix addPrefix expirePrefix
+  prefix-apart now s o = go (isSkipped o) (ltb 0 (o .«valid_lifetime»))
+    where
+      go : (x y : Bool) → routersOf (cond {A = Slaac} x s (cond {A = Slaac} y (addPrefix s (prefixOf o now)) (expirePrefix s (cidrOf o) now))) ≡ routersOf s
+      go true y = refl
+      go false true = refl
+      go false false = refl
+
+-- The sync, before v
+
+-- an expired prefix forms another address
+pub expired-other : (v : ℕ) (hw : HardwareAddress) (a c : Ipv6Cidr) (now : Instant) (p : Prefix) → now .0 < v → LastsTo v hw a p
+    → formedOf hw (p .cidr) ≡ Addr c → isValid now (p .«valid_until») ≡ false → sameCidr c a ≡ false
+expired-other v hw a c now p early lasts f e = go (sameCidr c a) refl
+  where
+    go : (b : Bool) → sameCidr c a ≡ b → b ≡ false
+    go true q =
+        let long : v ≤ p .«valid_until» .0 = lasts (f ∙ ap Addr (same-cidr c a q)) in
+        absurd (omega (arith, ltb-false (now .0) (p .«valid_until» .0) e))
+    go false q = refl
+
+-- an expired router is another
+pub expired-router : (v : ℕ) (via : Ipv6Addr) (now : Instant) (r : Router) → now .0 < v → RouterLastsTo v via r
+    → isValid now (r .«valid_until») ≡ false → r .addr ≡ via → ⊥
+expired-router v via now r early lasts e same =
+    let long : v ≤ r .«valid_until» .0 = lasts (rw same (sameAddr-refl via)) in
+    omega (arith, ltb-false (now .0) (r .«valid_until» .0) e)

@@ -1,0 +1,24 @@
+-- What this project promises beyond the single calls: every claim by name. `proofs/Claims.antt` proves them all. Assumes nothing.
+use Rattle.claims.specs.Places.{Places}
+use Rattle.claims.specs.Demand3.{Demand3}
+use Rattle.claims.specs.Traces.{Traces}
+use Rattle.claims.specs.Caches.{OnCaches}
+use Rattle.claims.specs.Clocks.{Clocks}
+use Rattle.claims.specs.Early.{NotEarly}
+use Rattle.claims.specs.Examples.{Examples}
+
+pub record Claims : Type 1 where
+  -- Traffic for other addresses cannot hold a resolution back, short of evicting it: demand 3, sentence by sentence, over any calls.
+  pub demand3 : Demand3
+  -- Its premises can be met: there are runs in which a key is kept, fails, is filled, is removed and is evicted.
+  pub traces : Traces
+  -- What is said there of lists of entries holds of the caches that the code's calls make, and no cache holds a key twice.
+  pub on-caches : OnCaches
+  -- The scans of the cache find the places that document 01 names.
+  pub places : Places
+  -- Sweeps and polls bring the clock's deadline forward or leave it, and leave now alone.
+  pub clocks : Clocks
+  -- No address and no default route leaves the table before its time.
+  pub not-early : NotEarly
+  -- Document 01's worked examples.
+  pub examples : Examples
