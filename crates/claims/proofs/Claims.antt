@@ -7,6 +7,7 @@ use Rattle.claims.proofs.Places.{places}
 use Rattle.claims.proofs.Clocks.{clocks}
 use Rattle.claims.proofs.Early.{not-early}
 use Rattle.claims.proofs.Examples.{examples}
+use Rattle.claims.proofs.Lasting.{lasting}
 
 pub claims : Claims
 claims = record {
@@ -16,5 +17,6 @@ claims = record {
   places = places;
   clocks = clocks;
   not-early = not-early;
+  lasting = lasting;
   examples = examples;
 }

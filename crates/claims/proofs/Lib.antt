@@ -13,3 +13,4 @@ pub mod Clocks
 pub mod Standing
 pub mod Early
 pub mod Examples
+pub mod Lasting

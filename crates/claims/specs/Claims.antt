@@ -6,6 +6,7 @@ use Rattle.claims.specs.Caches.{OnCaches}
 use Rattle.claims.specs.Clocks.{Clocks}
 use Rattle.claims.specs.Early.{NotEarly}
 use Rattle.claims.specs.Examples.{Examples}
+use Rattle.claims.specs.Lasting.{Lasting}
 
 pub record Claims : Type 1 where
   -- Traffic for other addresses cannot hold a resolution back, short of evicting it: demand 3, sentence by sentence, over any calls.
@@ -20,5 +21,7 @@ pub record Claims : Type 1 where
   pub clocks : Clocks
   -- No address and no default route leaves the table before its time.
   pub not-early : NotEarly
+  -- That time is met to the millisecond: the state of document 01's event file, polled before it and at it.
+  pub lasting : Lasting
   -- Document 01's worked examples.
   pub examples : Examples

@@ -15,6 +15,7 @@ use Rattle.neighbor.specs.CacheCalls.{entries, empty}
 use Rattle.iface.specs.declared.addr.IfaceAddr.{IfaceAddr}
 use Rattle.iface.specs.declared.addr.IfaceAddrs.{IfaceAddrs}
 use Rattle.iface.specs.declared.addr.Preferred.the-variants.{Until}
+use Rattle.iface.specs.declared.route.Routes.{Routes}
 use Rattle.iface.specs.AddressRules.{addrsOf, withAddrs, emptyAddrs, manualAddr, slaacAddr}
 use Rattle.iface.specs.RouteRules.{routesOf, emptyRoutes, slaacRoute}
 use Rattle.learned.specs.declared.Prefix.{Prefix}
@@ -84,8 +85,8 @@ ofLength n = record { address = network .address; «prefix_len» = n }
 abbrev pub hears : Slaac → List ℕ → ℕ → Advertised
 hears s msg now = callBy (callCheck (ms now) 0) s empty 0 router msg (ms now)
 
-abbrev pub polls : Slaac → IfaceAddrs → ℕ → Polled
-polls s t now = pollBy (callCheck (ms now) 0) s t emptyRoutes 0 true mac (replicate 16 0) (idle (ms now))
+abbrev pub polls : Slaac → IfaceAddrs → Routes → ℕ → Polled
+polls s t r now = pollBy (callCheck (ms now) 0) s t r 0 true mac (replicate 16 0) (idle (ms now))
 
 abbrev pub sends : Slaac → IfaceAddrs → ℕ → List ℕ
 sends s t now = pollBuffer (callCheck (ms now) 0) s t true mac (replicate 16 0) (idle (ms now))
@@ -99,30 +100,33 @@ abbrev pub learns : PrefixInformation → List Prefix
 learns o = prefixesOf (answerTo (prefixBytes o) .slaac)
 
 abbrev pub forms : PrefixInformation → List IfaceAddr
-forms o = addrsOf (polls (answerTo (prefixBytes o) .slaac) emptyAddrs 0 .addrs)
+forms o = addrsOf (polls (answerTo (prefixBytes o) .slaac) emptyAddrs emptyRoutes 0 .addrs)
 
 abbrev pub entry : Ipv6Cidr → ℕ → ℕ → Prefix
 entry c preferred valid = record { cidr = c; «preferred_until» = ms preferred; «valid_until» = ms valid }
 
 -- the event file: up, poll at 0, ra and poll at 500
 abbrev pub up : Polled
-up = polls (fresh true) addresses 0
+up = polls (fresh true) addresses emptyRoutes 0
 
 abbrev pub ra : Advertised
 ra = hears (up .slaac) (header ++ prefixBytes (offer network 3600 1800)) 500
 
 abbrev pub end : Polled
-end = polls (ra .slaac) (up .addrs) 500
+end = polls (ra .slaac) (up .addrs) (up .routes) 500
 
 -- the last example: one advertisement with both prefixes, one with the second at 0, and the sync
 abbrev pub withBoth : Slaac
 withBoth = answerTo (prefixBytes (offer network 3600 1800) ++ prefixBytes (offer network1 3600 1800)) .slaac
 
+abbrev pub firstSync : Polled
+firstSync = polls withBoth emptyAddrs emptyRoutes 10
+
 abbrev pub secondEnds : Slaac
-secondEnds = hears (polls withBoth emptyAddrs 10 .slaac) (header ++ prefixBytes (offer network1 0 0)) 20 .slaac
+secondEnds = hears (firstSync .slaac) (header ++ prefixBytes (offer network1 0 0)) 20 .slaac
 
 abbrev pub lastSync : Polled
-lastSync = polls secondEnds (polls withBoth emptyAddrs 10 .addrs) 20
+lastSync = polls secondEnds (firstSync .addrs) (firstSync .routes) 20
 
 -- a start of fe80::1 and sweeps of its interface
 abbrev pub startAndSweeps : List Call
@@ -176,6 +180,6 @@ pub record Examples : Type 0 where
       ∷ swept 0 (Failed (neighbour 1 .addr) ∷ [])
       ∷ []
   -- "2001:db8:0:1::/64, then 2001:db8:0:1::1/64, then the second with 0: the sync leaves no address though the first entry stays."
-  pub formed-first : addrsOf (polls withBoth emptyAddrs 10 .addrs) ≡ slaacAddr formed (Until (ms 1800000)) ∷ []
+  pub formed-first : addrsOf (firstSync .addrs) ≡ slaacAddr formed (Until (ms 1800000)) ∷ []
   pub no-address : addrsOf (lastSync .addrs) ≡ []
   pub entry-stays : prefixesOf (lastSync .slaac) ≡ entry network 1800000 3600000 ∷ []

@@ -8,3 +8,4 @@ pub mod Places
 pub mod Clocks
 pub mod Early
 pub mod Examples
+pub mod Lasting
