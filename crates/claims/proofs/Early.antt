@@ -2,7 +2,7 @@
 use Prim.Native.Nat.{ℕ, _≤_, _<_}
 use native.Mathlib.Omega.{arith}
 use mathlib.Core.Path.{_≡_, refl, sym, ap, _∙_, subst}
-use mathlib.Core.Bool.{Bool, true, false, cond}
+use mathlib.Core.Bool.{Bool, true, false, cond, true≢false}
 use mathlib.Core.List.{List, [], _∷_, _++_}
 use Rattle.table.specs.Table.{foldOver}
 use Rattle.time.specs.declared.Instant.{Instant}
@@ -48,7 +48,7 @@ use Rattle.learned.specs.declared.Changed.{Changed}
 use Rattle.iface.specs.declared.addr.Added.{Added}
 use Rattle.iface.specs.declared.route.AddedRoute.{AddedRoute}
 use Rattle.slaac.specs.declared.PollAnswer.{PollAnswer}
-use Rattle.claims.specs.Early.{All, Host, HostCall, advertise, poll, restart, turnOn, addAddr, addRoute, pollElsewhere, Step, advertised, polled, restarted, turned-on, addr-added, route-added, polled-elsewhere, Run, none, one-more, stands, LastsTo, Spares, Harmless, Silent, routeStands, RouterLastsTo, RouterSpares, HarmlessTo, NotEarly}
+use Rattle.claims.specs.Early.{All, Host, HostCall, advertise, poll, restart, turnOn, addAddr, addRoute, pollElsewhere, Step, advertised, polled, restarted, turned-on, addr-added, route-added, polled-elsewhere, Run, none, one-more, stands, LastsTo, Spares, Harmless, Silent, routeStands, RouterLastsTo, RouterSpares, HarmlessTo, SilentTo, NotEarly}
 use Rattle.claims.proofs.Standing.{entries-with, put-stands, drop-stands, add-stands, process-lasts, leave-lasts, router-apart, put-route-stands, drop-route-stands, add-route-stands, process-router, leave-router, prefix-apart, expired-other, expired-router}
 
 -- Addresses
@@ -392,6 +392,18 @@ silent-harmless v hw a addAddr h = tt
 silent-harmless v hw a addRoute h = tt
 silent-harmless v hw a pollElsewhere h = tt
 
+silent-router : (v : ℕ) (via : Ipv6Addr) (c : HostCall) → SilentTo v via c → HarmlessTo v via c
+silent-router v via (advertise source msg now) h = λ e. absurd (true≢false (sym e ∙ h))
+silent-router v via (poll now) h = h
+silent-router v via restart h = tt
+silent-router v via turnOn h = tt
+silent-router v via addAddr h = tt
+silent-router v via addRoute h = tt
+silent-router v via pollElsewhere h = tt
+
+router-ends : (p q : Router) → q ≡ p → p .«valid_until» .0 ≤ q .«valid_until» .0
+router-ends p q same = rw same (omega arith)
+
 ends : (p q : Prefix) → q ≡ p → p .«valid_until» .0 ≤ q .«valid_until» .0
 ends p q same = rw same (omega arith)
 
@@ -406,4 +418,12 @@ not-early = record {
         long = all-map _ (LastsTo (p .«valid_until» .0) hw a) (λ q f e. ends p q (f e)) (prefixesOf (x .slaac)) o;
       }) .there;
   route = λ i hw via v x y cs r h l q. held-run v via r q (record { there = h; long = l }) .there;
+  route-of =
+      λ i hw p x y cs r h o q.
+      held-run (p .«valid_until» .0) (p .addr) r
+      (all-map (SilentTo (p .«valid_until» .0) (p .addr)) (HarmlessTo (p .«valid_until» .0) (p .addr)) (silent-router (p .«valid_until» .0) (p .addr)) cs q)
+      (record {
+        there = h;
+        long = all-map _ (RouterLastsTo (p .«valid_until» .0) (p .addr)) (λ q f e. router-ends p q (f e)) (routersOf (x .slaac)) o;
+      }) .there;
 }

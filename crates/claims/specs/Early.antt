@@ -142,6 +142,16 @@ HarmlessTo v via addAddr = Unit {0}
 HarmlessTo v via addRoute = Unit {0}
 HarmlessTo v via pollElsewhere = Unit {0}
 
+-- the same without times: a poll before v, an advertisement of another router, and any other
+abbrev pub SilentTo : ℕ → Ipv6Addr → HostCall → Type 0
+SilentTo v via (advertise source msg now) = sameAddr source via ≡ false
+SilentTo v via (poll now) = now .0 < v
+SilentTo v via restart = Unit {0}
+SilentTo v via turnOn = Unit {0}
+SilentTo v via addAddr = Unit {0}
+SilentTo v via addRoute = Unit {0}
+SilentTo v via pollElsewhere = Unit {0}
+
 -- The claim. Turning SLAAC off on the interface is no call of these runs: it "removes its addresses and routes".
 
 pub record NotEarly : Type 0 where
@@ -160,3 +170,8 @@ pub record NotEarly : Type 0 where
   pub route : (i : ℕ) (hw : HardwareAddress) (via : Ipv6Addr) (v : ℕ) (x y : Host) (cs : List HostCall) → Run i hw x cs y
       → routeStands i via (routesOf (x .routes)) ≡ true → All (RouterLastsTo v via) (routersOf (x .slaac)) → All (HarmlessTo v via) cs
       → routeStands i via (routesOf (y .routes)) ≡ true
+  -- The same for one router: it is the only entry of that address, and no advertisement is its own.
+  pub route-of : (i : ℕ) (hw : HardwareAddress) (p : Router) (x y : Host) (cs : List HostCall) → Run i hw x cs y
+      → routeStands i (p .addr) (routesOf (x .routes)) ≡ true → All (λ q. sameAddr (q .addr) (p .addr) ≡ true → q ≡ p) (routersOf (x .slaac))
+      → All (SilentTo (p .«valid_until» .0) (p .addr)) cs
+      → routeStands i (p .addr) (routesOf (y .routes)) ≡ true
