@@ -9,13 +9,13 @@ use mathlib.Core.List.{List, [], _∷_, map}
 use mathlib.Core.Path.{_≡_, refl, sym, ap, _∙_, subst}
 use native.Mathlib.Omega.{arith}
 use Rattle.claims.proofs.Demand3.{demand3}
-use Rattle.claims.specs.Caches.{ofLookup, ofGot, ofOutcome, ofSweep, eventOf, eventList, Step, looks-up, starts, fills, inserts, gets, lists, removes, clears, advertises, sweeps, heardAddr, heardMessage, heardBy, Run, none, one-more, OnCaches}
-use Rattle.claims.specs.Calls.{Call, lookup, start, fill, insert, get, remove, clear, sweep, advertise, silence, address, reachable, check, meant, does, next, Answer, done, looked, got, swept, answer, answerBy, effectBy, answers, tableAfter, reply}
+use Rattle.claims.specs.Caches.{ofLookup, ofGot, ofOutcome, ofSweep, eventOf, eventList, Step, looks-up, starts, fills, inserts, gets, lists, removes, clears, advertises, turns-off, sweeps, wentBy, heardAddr, heardMessage, heardBy, Run, none, one-more, OnCaches}
+use Rattle.claims.specs.Calls.{Call, lookup, start, fill, insert, get, remove, clear, sweep, advertise, turnOff, silence, address, reachable, check, meant, does, next, Answer, done, looked, got, swept, answer, answerBy, effectBy, answers, tableAfter, reply}
 use Rattle.claims.specs.Watch.{reportsAll}
 use Rattle.neighbor.specs.Answers.{answerOf}
 use Rattle.neighbor.specs.CacheCalls.{key, entries, withEntries, changeBy, ChangedTo, lookupBy, getBy, removeBy, keyCheck, fillCheck, ifaceCheck, answerIn, shown, blank}
 use Rattle.neighbor.specs.Distinct.{Distinct}
-use Rattle.neighbor.specs.NeighborRules.{Table, Key, isKey, find, insertState, removeKey}
+use Rattle.neighbor.specs.NeighborRules.{Table, Key, isKey, find, insertState, removeKey, clearIface}
 use Rattle.neighbor.specs.declared.Answer.the-variants.{NotFound}
 use Rattle.neighbor.specs.declared.Changed.{Changed}
 use Rattle.neighbor.specs.declared.Entry.{Entry}
@@ -36,6 +36,13 @@ use Rattle.wire.specs.Rfc2464.{isUnicastHardware}
 use Rattle.learned.specs.declared.Slaac.{Slaac}
 use Rattle.slaac.specs.declared.LinkLayerAddr.{LinkLayerAddr}
 use Rattle.slaac.specs.declared.LinkLayerAddr.the-variants.{Nothing as NoAddr, Is as IsAddr}
+use Rattle.pending.specs.declared.PendingQueue.{PendingQueue}
+use Rattle.iface.specs.declared.addr.IfaceAddrs.{IfaceAddrs}
+use Rattle.iface.specs.declared.route.Routes.{Routes}
+use Rattle.iface.specs.AddressRules.{clearAddrs}
+use Rattle.learned.specs.declared.Outcome.the-variants.{Done}
+use Rattle.slaac.specs.declared.TurnedOff.{TurnedOff}
+use Rattle.slaac.specs.OffRules.{clearedCache, offNow, offBy}
 use Rattle.slaac.specs.declared.Advertised.{Advertised}
 use Rattle.slaac.specs.declared.AdvertAnswer.the-variants.{Off}
 use Rattle.slaac.specs.Answers.{callCheck}
@@ -162,6 +169,23 @@ hearing Fine s c i source msg now = go (s .on)
     go true = message (messageCheck source msg) s c i source msg now
     go false = refl
 
+-- turning SLAAC off clears, or does nothing
+clearing : (went : Bool) (c : NeighborCache) (i : ℕ) → entries (clearedCache went c i) ≡ does (meant (turnOff i went)) (entries c)
+clearing true c i = entries-of c (clearIface i (entries c))
+clearing false c i = refl
+
+turning : (x : Check) (s : Slaac) (t : IfaceAddrs) (r : Routes) (c : NeighborCache) (q : PendingQueue) (i : ℕ)
+    → entries (offBy x s t r c q i .cache) ≡ does (meant (turnOff i (wentBy x (s .on) (clearAddrs t .any)))) (entries c)
+unfolding offNow
+turning (Fails why) s t r c q i = refl
+turning Fine s t r c q i = go (s .on)
+  where
+    go : (b : Bool)
+        → entries (cond {A = TurnedOff} b (offNow t r c q i) (record { slaac = s; addrs = t; routes = r; cache = c; queue = q; outcome = Done }) .cache)
+        ≡ does (meant (turnOff i (cond b (clearAddrs t .any) false))) (entries c)
+    go true = clearing (clearAddrs t .any) c i
+    go false = refl
+
 -- Steps and runs
 
 abbrev Follows : NeighborCache → Call → Answer → NeighborCache → Type 0
@@ -182,6 +206,7 @@ follows (lists c n r h) = (ap ofGot h ∙ listing (ltb n (length (entries c))) (
 follows (removes c i a r h) = rw (h .is) (removing (ifaceCheck i) c (key i a))
 follows (clears c i r h) = changed (ifaceCheck i) (clear i) c r h refl
 follows (advertises c s i source msg now r h) = (refl, ap (λ (q : Advertised). entries (q .cache)) (h .is) ∙ hearing (callCheck now i) s c i source msg now)
+follows (turns-off c s t r q i x h) = (refl, ap (λ (w : TurnedOff). entries (w .cache)) (h .is) ∙ turning (ifaceCheck i) s t r c q i)
 follows (sweeps c k i r h) = rw (h .is) (sweeping (sweepCheck k i) c k i)
 
 more : (c : NeighborCache) (call : Call) (a : Answer) (d : NeighborCache) (cs : List Call) (as′ : List Answer) (e : NeighborCache) → Follows c call a d

@@ -36,7 +36,7 @@ use Rattle.learned.specs.LearnedRules.{prefixesOf, routersOf}
 use Rattle.learned.specs.DiscoveryRules.{duePhase, due, retryAt, sent, solicitation, withDiscovery}
 use Rattle.learned.specs.ExpiryRules.{askPrefix, askRouter, syncDue}
 use Rattle.slaac.specs.declared.Turn.{Turn}
-use Rattle.slaac.specs.declared.Polled.{Polled}
+use Rattle.slaac.specs.declared.PolledAt.{PolledAt}
 use Rattle.slaac.specs.declared.PollAnswer.{PollAnswer}
 use Rattle.slaac.specs.declared.PollAnswer.the-variants.{Off}
 use Rattle.slaac.specs.Answers.{callCheck}
@@ -117,7 +117,7 @@ unfolding syncTurn
 sync-forward s t r i hw now k w = go (syncDue s k .expired)
   where
     go : (b : Bool)
-        → Forward k (cond {A = Polled} b (synced s t r i hw now (syncDue s k .clock) w) (record { slaac = s; addrs = t; routes = r; clock = syncDue s k .clock; answer = w }) .clock)
+        → Forward k (cond {A = PolledAt} b (synced s t r i hw now (syncDue s k .clock) w) (record { clock = syncDue s k .clock; polled = record { slaac = s; addrs = t; routes = r; answer = w } }) .clock)
     go true = asked-forward s k
     go false = asked-forward s k
 
@@ -130,10 +130,10 @@ poll-forward Fine s t r i up hw buf k = go (s .on)
     u : Turn
     u = turnOf (s .discovery) (senderIn up t) buf k
 
-    after : Bool → Polled
+    after : Bool → PolledAt
     after b =
         cond b (syncTurn (withDiscovery s (u .discovery)) t r i hw (k .now) (u .clock) (u .answer))
-        (record { slaac = s; addrs = t; routes = r; clock = k; answer = Off })
+        (record { clock = k; polled = record { slaac = s; addrs = t; routes = r; answer = Off } })
 
     go : (b : Bool) → Forward k (after b .clock)
     go true =
@@ -144,7 +144,7 @@ poll-forward Fine s t r i up hw buf k = go (s .on)
 pub clocks : Clocks
 clocks = record {
   sweep = λ c k i r h. subst (λ (s : Swept). Forward k (s .clock)) (sym (h .is)) (swept-forward (sweepCheck k i) c k i);
-  poll =
-      λ s t r i up hw buf k p buf' h.
-      subst (λ (q : Polled). Forward k (q .clock)) (sym (h .is)) (poll-forward (callCheck (k .now) i) s t r i up hw buf k);
+  poll-at =
+      λ s t r i up hw buf k p buf' h. subst (λ (q : PolledAt). Forward k (q .clock)) (sym (h .is)) (poll-forward (callCheck (k .now) i) s t r i up hw buf k);
+  poll = λ s t r i up hw buf k p buf' k' h. subst (Forward k) (sym (h .clock)) (poll-forward (callCheck (k .now) i) s t r i up hw buf k);
 }

@@ -28,7 +28,7 @@ use Rattle.iface.specs.declared.addr.Preferred.{Preferred}
 use Rattle.iface.specs.declared.route.Route.{Route}
 use Rattle.iface.specs.declared.route.Routes.{Routes}
 use Rattle.iface.specs.AddressRules.{addrsOf, withAddrs, manualAddr, addAddrBy, addrCheck, putAddr, dropAddr}
-use Rattle.iface.specs.RouteRules.{routesOf, withRoutes, manualRoute, addRouteBy, routeCheck, putRoute, dropRoute}
+use Rattle.iface.specs.RouteRules.{routesOf, withRoutes, manualRoute, addRouteBy, routeCheck, putRoute, dropRoute, clearRoutes}
 use Rattle.learned.specs.declared.Prefix.{Prefix}
 use Rattle.learned.specs.declared.Router.{Router}
 use Rattle.learned.specs.declared.Slaac.{Slaac}
@@ -41,15 +41,20 @@ use Rattle.slaac.specs.SyncRules.{preferredOf, syncFormed, syncPrefix, syncRout
 use Rattle.slaac.specs.PollRules.{syncTurn, afterTurn, turnOf, senderIn, pollOn, pollBy}
 use Rattle.slaac.specs.declared.Turn.{Turn}
 use Rattle.slaac.specs.declared.Polled.{Polled}
+use Rattle.slaac.specs.declared.PolledAt.{PolledAt}
+use Rattle.slaac.specs.declared.TurnedOff.{TurnedOff}
+use Rattle.slaac.specs.OffRules.{offNow, offBy}
+use Rattle.pending.specs.declared.PendingQueue.{PendingQueue}
 use Rattle.slaac.specs.declared.Advertised.{Advertised}
 use Rattle.slaac.specs.declared.AdvertAnswer.the-variants.{Off}
 use Rattle.slaac.specs.declared.PollAnswer.the-variants.{Off as PollOff}
 use Rattle.learned.specs.declared.Changed.{Changed}
+use Rattle.learned.specs.declared.Outcome.the-variants.{Done}
 use Rattle.iface.specs.declared.addr.Added.{Added}
 use Rattle.iface.specs.declared.route.AddedRoute.{AddedRoute}
 use Rattle.slaac.specs.declared.PollAnswer.{PollAnswer}
-use Rattle.claims.specs.Early.{All, Host, HostCall, advertise, poll, restart, turnOn, addAddr, addRoute, pollElsewhere, Step, advertised, polled, restarted, turned-on, addr-added, route-added, polled-elsewhere, Run, none, one-more, stands, LastsTo, Spares, Harmless, Silent, routeStands, RouterLastsTo, RouterSpares, HarmlessTo, SilentTo, NotEarly}
-use Rattle.claims.proofs.Standing.{entries-with, put-stands, drop-stands, add-stands, process-lasts, leave-lasts, router-apart, put-route-stands, drop-route-stands, add-route-stands, process-router, leave-router, prefix-apart, expired-other, expired-router}
+use Rattle.claims.specs.Early.{All, Host, HostCall, advertise, poll, restart, turnOn, addAddr, addRoute, turnOff, pollElsewhere, offElsewhere, Step, advertised, polled, polled-at, restarted, turned-on, addr-added, route-added, turned-off, polled-elsewhere, polled-at-elsewhere, off-elsewhere, Run, none, one-more, stands, LastsTo, Spares, Harmless, Silent, routeStands, RouterLastsTo, RouterSpares, HarmlessTo, SilentTo, NotEarly}
+use Rattle.claims.proofs.Standing.{entries-with, put-stands, drop-stands, add-stands, process-lasts, leave-lasts, router-apart, put-route-stands, drop-route-stands, clear-route-stands, add-route-stands, process-router, leave-router, prefix-apart, expired-other, expired-router}
 
 -- Addresses
 
@@ -113,21 +118,21 @@ module _ (v : ℕ) (hw : HardwareAddress) (a : Ipv6Cidr) where
       go false = g
 
   good-sync : (s : Slaac) (t : IfaceAddrs) (r : Routes) (i : ℕ) (now : Instant) (k : Clock) (w : PollAnswer) → now .0 < v → Good s t
-      → Good (syncTurn s t r i hw now k w .slaac) (syncTurn s t r i hw now k w .addrs)
+      → Good (syncTurn s t r i hw now k w .polled .slaac) (syncTurn s t r i hw now k w .polled .addrs)
   unfolding syncTurn syncAddrs
   good-sync s t r i now k w early g = go (syncDue s k .expired)
     where
-      after : Bool → Polled
+      after : Bool → PolledAt
       after b =
-          cond b (record { slaac = leaveExpired now s; addrs = syncAddrs hw now t s; routes = syncRoutes i now r s; clock = syncDue s k .clock; answer = w })
-          (record { slaac = s; addrs = t; routes = r; clock = syncDue s k .clock; answer = w })
+          cond b (record { clock = syncDue s k .clock; polled = record { slaac = leaveExpired now s; addrs = syncAddrs hw now t s; routes = syncRoutes i now r s; answer = w } })
+          (record { clock = syncDue s k .clock; polled = record { slaac = s; addrs = t; routes = r; answer = w } })
 
-      go : (b : Bool) → Good (after b .slaac) (after b .addrs)
+      go : (b : Bool) → Good (after b .polled .slaac) (after b .polled .addrs)
       go true = record { there = sync-each now early (prefixesOf s) t (g .long) (g .there); long = leave-lasts v hw a now s (g .long) }
       go false = g
 
   good-poll : (x : Check) (s : Slaac) (t : IfaceAddrs) (r : Routes) (i : ℕ) (up : Bool) (buf : List ℕ) (k : Clock) → k .now .0 < v → Good s t
-      → Good (pollBy x s t r i up hw buf k .slaac) (pollBy x s t r i up hw buf k .addrs)
+      → Good (pollBy x s t r i up hw buf k .polled .slaac) (pollBy x s t r i up hw buf k .polled .addrs)
   unfolding pollOn
   good-poll (Fails why) s t r i up buf k early g = g
   good-poll Fine s t r i up buf k early g = go (s .on)
@@ -135,12 +140,12 @@ module _ (v : ℕ) (hw : HardwareAddress) (a : Ipv6Cidr) where
       u : Turn
       u = turnOf (s .discovery) (senderIn up t) buf k
 
-      after : Bool → Polled
+      after : Bool → PolledAt
       after b =
           cond b (syncTurn (withDiscovery s (u .discovery)) t r i hw (k .now) (u .clock) (u .answer))
-          (record { slaac = s; addrs = t; routes = r; clock = k; answer = PollOff })
+          (record { clock = k; polled = record { slaac = s; addrs = t; routes = r; answer = PollOff } })
 
-      go : (b : Bool) → Good (after b .slaac) (after b .addrs)
+      go : (b : Bool) → Good (after b .polled .slaac) (after b .polled .addrs)
       go true = good-sync (withDiscovery s (u .discovery)) t r i (k .now) (u .clock) (u .answer) early (record { there = g .there; long = g .long })
       go false = g
 
@@ -168,14 +173,19 @@ module _ (v : ℕ) (hw : HardwareAddress) (a : Ipv6Cidr) where
   good-step : {i : ℕ} {x y : Host} {c : HostCall} → Step i hw x c y → Harmless v hw a c → Good (x .slaac) (x .addrs) → Good (y .slaac) (y .addrs)
   good-step {i} (advertised x c' source msg now r p) h g =
       subst (λ (q : Advertised). Good (q .slaac) (x .addrs)) (sym (p .is)) (good-call (callCheck now i) (x .slaac) (x .addrs) c' i source msg now h g)
-  good-step {i} (polled x up buf buf' k r p) h g =
+  good-step {i} (polled x up buf buf' k k' r p) h g =
       subst (λ (q : Polled). Good (q .slaac) (q .addrs)) (sym (p .is)) (good-poll (callCheck (k .now) i) (x .slaac) (x .addrs) (x .routes) i up buf k h g)
+  good-step {i} (polled-at x up buf buf' k r p) h g =
+      subst (λ (q : PolledAt). Good (q .polled .slaac) (q .polled .addrs)) (sym (p .is)) (good-poll (callCheck (k .now) i) (x .slaac) (x .addrs) (x .routes) i up buf k h g)
   good-step {i} (restarted x r p) h g = subst (λ (q : Changed). Good (q .slaac) (x .addrs)) (sym (p .is)) (good-restart (ifaceCheck i) (x .slaac) (x .addrs) g)
   good-step {i} (turned-on x r p) h g = subst (λ (q : Changed). Good (q .slaac) (x .addrs)) (sym (p .is)) (good-on (ifaceCheck i) (x .slaac) (x .addrs) g)
   good-step {i} (addr-added x n r p) h g =
       subst (λ (q : Added). Good (x .slaac) (q .addrs)) (sym (p .is)) (good-added (addrCheck i n (addrsOf (x .addrs))) (x .slaac) (x .addrs) n g)
   good-step {i} (route-added x j n via r p) h g = g
-  good-step {i} (polled-elsewhere x j s t up h' buf buf' k r n p) h g = g
+  good-step (turned-off x n q r p) h g = absurd h
+  good-step (polled-at-elsewhere x j s t up h' buf buf' k r n p) h g = g
+  good-step (off-elsewhere x j s t n q r d p) h g = g
+  good-step {i} (polled-elsewhere x j s t up h' buf buf' k k' r n p) h g = g
 
   good-run : {i : ℕ} {x y : Host} {cs : List HostCall} → Run i hw x cs y → All (Harmless v hw a) cs → Good (x .slaac) (x .addrs) → Good (y .slaac) (y .addrs)
   good-run (none x) h g = g
@@ -216,21 +226,21 @@ module _ (i : ℕ) (via : Ipv6Addr) where
   sync-routers j now (r ∷ rs) t o h = sync-routers j now rs (syncRouter j now t r) (o .1) (sync-router j now t r (o .0) h)
 
   route-sync : (s : Slaac) (t : IfaceAddrs) (r : Routes) (j : ℕ) (hw : HardwareAddress) (now : Instant) (k : Clock) (w : PollAnswer) → All (Other j now) (routersOf s)
-      → routeStands i via (routesOf r) ≡ true → routeStands i via (routesOf (syncTurn s t r j hw now k w .routes)) ≡ true
+      → routeStands i via (routesOf r) ≡ true → routeStands i via (routesOf (syncTurn s t r j hw now k w .polled .routes)) ≡ true
   unfolding syncTurn syncRoutes
   route-sync s t r j hw now k w o h = go (syncDue s k .expired)
     where
-      after : Bool → Polled
+      after : Bool → PolledAt
       after b =
-          cond b (record { slaac = leaveExpired now s; addrs = syncAddrs hw now t s; routes = syncRoutes j now r s; clock = syncDue s k .clock; answer = w })
-          (record { slaac = s; addrs = t; routes = r; clock = syncDue s k .clock; answer = w })
+          cond b (record { clock = syncDue s k .clock; polled = record { slaac = leaveExpired now s; addrs = syncAddrs hw now t s; routes = syncRoutes j now r s; answer = w } })
+          (record { clock = syncDue s k .clock; polled = record { slaac = s; addrs = t; routes = r; answer = w } })
 
-      go : (b : Bool) → routeStands i via (routesOf (after b .routes)) ≡ true
+      go : (b : Bool) → routeStands i via (routesOf (after b .polled .routes)) ≡ true
       go true = sync-routers j now (routersOf s) r o h
       go false = h
 
   route-poll : (x : Check) (s : Slaac) (t : IfaceAddrs) (r : Routes) (j : ℕ) (up : Bool) (hw : HardwareAddress) (buf : List ℕ) (k : Clock)
-      → All (Other j (k .now)) (routersOf s) → routeStands i via (routesOf r) ≡ true → routeStands i via (routesOf (pollBy x s t r j up hw buf k .routes)) ≡ true
+      → All (Other j (k .now)) (routersOf s) → routeStands i via (routesOf r) ≡ true → routeStands i via (routesOf (pollBy x s t r j up hw buf k .polled .routes)) ≡ true
   unfolding pollOn
   route-poll (Fails why) s t r j up hw buf k o h = h
   route-poll Fine s t r j up hw buf k o h = go (s .on)
@@ -238,18 +248,29 @@ module _ (i : ℕ) (via : Ipv6Addr) where
       u : Turn
       u = turnOf (s .discovery) (senderIn up t) buf k
 
-      after : Bool → Polled
+      after : Bool → PolledAt
       after b =
           cond b (syncTurn (withDiscovery s (u .discovery)) t r j hw (k .now) (u .clock) (u .answer))
-          (record { slaac = s; addrs = t; routes = r; clock = k; answer = PollOff })
+          (record { clock = k; polled = record { slaac = s; addrs = t; routes = r; answer = PollOff } })
 
-      go : (b : Bool) → routeStands i via (routesOf (after b .routes)) ≡ true
+      go : (b : Bool) → routeStands i via (routesOf (after b .polled .routes)) ≡ true
       go true = route-sync (withDiscovery s (u .discovery)) t r j hw (k .now) (u .clock) (u .answer) o h
       go false = h
 
   route-added-to : (x : Check) (t : Routes) (e : Route) → routeStands i via (routesOf t) ≡ true → routeStands i via (routesOf (addRouteBy x t e .routes)) ≡ true
   route-added-to (Fails why) t e h = h
   route-added-to Fine t e h = route-with t (routesOf t ++ (e ∷ [])) (add-route-stands i via e (routesOf t) h)
+
+  route-off : (x : Check) (s : Slaac) (t : IfaceAddrs) (r : Routes) (c : NeighborCache) (q : PendingQueue) (j : ℕ) → (j ≡ i → ⊥)
+      → routeStands i via (routesOf r) ≡ true → routeStands i via (routesOf (offBy x s t r c q j .routes)) ≡ true
+  unfolding offNow
+  route-off (Fails why) s t r c q j n h = h
+  route-off Fine s t r c q j n h = go (s .on)
+    where
+      go : (b : Bool)
+          → routeStands i via (routesOf (cond {A = TurnedOff} b (offNow t r c q j) (record { slaac = s; addrs = t; routes = r; cache = c; queue = q; outcome = Done }) .routes)) ≡ true
+      go true = route-with r (clearRoutes j (routesOf r)) (clear-route-stands i j via (routesOf r) n h)
+      go false = h
 
 -- The routers
 
@@ -286,21 +307,21 @@ module _ (v : ℕ) (via : Ipv6Addr) where
       go false = l
 
   stays-sync : (s : Slaac) (t : IfaceAddrs) (r : Routes) (i : ℕ) (hw : HardwareAddress) (now : Instant) (k : Clock) (w : PollAnswer) → All stays (routersOf s)
-      → All stays (routersOf (syncTurn s t r i hw now k w .slaac))
+      → All stays (routersOf (syncTurn s t r i hw now k w .polled .slaac))
   unfolding syncTurn
   stays-sync s t r i hw now k w l = go (syncDue s k .expired)
     where
-      after : Bool → Polled
+      after : Bool → PolledAt
       after b =
-          cond b (record { slaac = leaveExpired now s; addrs = syncAddrs hw now t s; routes = syncRoutes i now r s; clock = syncDue s k .clock; answer = w })
-          (record { slaac = s; addrs = t; routes = r; clock = syncDue s k .clock; answer = w })
+          cond b (record { clock = syncDue s k .clock; polled = record { slaac = leaveExpired now s; addrs = syncAddrs hw now t s; routes = syncRoutes i now r s; answer = w } })
+          (record { clock = syncDue s k .clock; polled = record { slaac = s; addrs = t; routes = r; answer = w } })
 
-      go : (b : Bool) → All stays (routersOf (after b .slaac))
+      go : (b : Bool) → All stays (routersOf (after b .polled .slaac))
       go true = leave-router v via now s l
       go false = l
 
   stays-poll : (x : Check) (s : Slaac) (t : IfaceAddrs) (r : Routes) (i : ℕ) (up : Bool) (hw : HardwareAddress) (buf : List ℕ) (k : Clock) → All stays (routersOf s)
-      → All stays (routersOf (pollBy x s t r i up hw buf k .slaac))
+      → All stays (routersOf (pollBy x s t r i up hw buf k .polled .slaac))
   unfolding pollOn
   stays-poll (Fails why) s t r i up hw buf k l = l
   stays-poll Fine s t r i up hw buf k l = go (s .on)
@@ -308,12 +329,12 @@ module _ (v : ℕ) (via : Ipv6Addr) where
       u : Turn
       u = turnOf (s .discovery) (senderIn up t) buf k
 
-      after : Bool → Polled
+      after : Bool → PolledAt
       after b =
           cond b (syncTurn (withDiscovery s (u .discovery)) t r i hw (k .now) (u .clock) (u .answer))
-          (record { slaac = s; addrs = t; routes = r; clock = k; answer = PollOff })
+          (record { clock = k; polled = record { slaac = s; addrs = t; routes = r; answer = PollOff } })
 
-      go : (b : Bool) → All stays (routersOf (after b .slaac))
+      go : (b : Bool) → All stays (routersOf (after b .polled .slaac))
       go true = stays-sync (withDiscovery s (u .discovery)) t r i hw (k .now) (u .clock) (u .answer) l
       go false = l
 
@@ -347,13 +368,22 @@ module _ (v : ℕ) (via : Ipv6Addr) where
         there = g .there;
         long = subst (λ (q : Advertised). All stays (routersOf (q .slaac))) (sym (p .is)) (stays-call (callCheck now i) (x .slaac) c' i source msg now h (g .long));
       }
-  held-step {i} {hw} (polled x up buf buf' k r p) h g =
+  held-step {i} {hw} (polled x up buf buf' k k' r p) h g =
       record {
         there =
             subst (λ (q : Polled). routeStands i via (routesOf (q .routes)) ≡ true) (sym (p .is))
             (route-poll i via (callCheck (k .now) i) (x .slaac) (x .addrs) (x .routes) i up hw buf k (others i (k .now) h (routersOf (x .slaac)) (g .long)) (g .there));
         long =
             subst (λ (q : Polled). All stays (routersOf (q .slaac))) (sym (p .is))
+            (stays-poll (callCheck (k .now) i) (x .slaac) (x .addrs) (x .routes) i up hw buf k (g .long));
+      }
+  held-step {i} {hw} (polled-at x up buf buf' k r p) h g =
+      record {
+        there =
+            subst (λ (q : PolledAt). routeStands i via (routesOf (q .polled .routes)) ≡ true) (sym (p .is))
+            (route-poll i via (callCheck (k .now) i) (x .slaac) (x .addrs) (x .routes) i up hw buf k (others i (k .now) h (routersOf (x .slaac)) (g .long)) (g .there));
+        long =
+            subst (λ (q : PolledAt). All stays (routersOf (q .polled .slaac))) (sym (p .is))
             (stays-poll (callCheck (k .now) i) (x .slaac) (x .addrs) (x .routes) i up hw buf k (g .long));
       }
   held-step {i} (restarted x r p) h g =
@@ -368,7 +398,22 @@ module _ (v : ℕ) (via : Ipv6Addr) where
             (route-added-to i via (routeCheck j n by (routesOf (x .routes))) (x .routes) (manualRoute j n by) (g .there));
         long = g .long;
       }
-  held-step {i} (polled-elsewhere x j s t up hw' buf buf' k r n p) h g =
+  held-step (turned-off x n q r p) h g = absurd h
+  held-step {i} (polled-at-elsewhere x j s t up hw' buf buf' k r n p) h g =
+      record {
+        there =
+            subst (λ (q : PolledAt). routeStands i via (routesOf (q .polled .routes)) ≡ true) (sym (p .is))
+            (route-poll i via (callCheck (k .now) j) s t (x .routes) j up hw' buf k (all-of (Other i via j (k .now)) (λ r' e same by. n same) (routersOf s)) (g .there));
+        long = g .long;
+      }
+  held-step {i} (off-elsewhere x j s t n q r d p) h g =
+      record {
+        there =
+            subst (λ (w : TurnedOff). routeStands i via (routesOf (w .routes)) ≡ true) (sym (p .is))
+            (route-off i via (ifaceCheck j) s t (x .routes) n q j d (g .there));
+        long = g .long;
+      }
+  held-step {i} (polled-elsewhere x j s t up hw' buf buf' k k' r n p) h g =
       record {
         there =
             subst (λ (q : Polled). routeStands i via (routesOf (q .routes)) ≡ true) (sym (p .is))
@@ -390,7 +435,9 @@ silent-harmless v hw a restart h = tt
 silent-harmless v hw a turnOn h = tt
 silent-harmless v hw a addAddr h = tt
 silent-harmless v hw a addRoute h = tt
+silent-harmless v hw a turnOff h = absurd h
 silent-harmless v hw a pollElsewhere h = tt
+silent-harmless v hw a offElsewhere h = tt
 
 silent-router : (v : ℕ) (via : Ipv6Addr) (c : HostCall) → SilentTo v via c → HarmlessTo v via c
 silent-router v via (advertise source msg now) h = λ e. absurd (true≢false (sym e ∙ h))
@@ -399,7 +446,9 @@ silent-router v via restart h = tt
 silent-router v via turnOn h = tt
 silent-router v via addAddr h = tt
 silent-router v via addRoute h = tt
+silent-router v via turnOff h = absurd h
 silent-router v via pollElsewhere h = tt
+silent-router v via offElsewhere h = tt
 
 router-ends : (p q : Router) → q ≡ p → p .«valid_until» .0 ≤ q .«valid_until» .0
 router-ends p q same = rw same (omega arith)

@@ -1,7 +1,7 @@
 -- Runs of the code's own calls on caches are runs on entries: the promise of each function that is given the cache, call by call. Assumes nothing.
 use Prim.Native.Nat.{ℕ, _≤_}
 use mathlib.Core.Path.{_≡_}
-use mathlib.Core.Bool.{Bool, cond}
+use mathlib.Core.Bool.{Bool, false, cond}
 use mathlib.Core.List.{List, [], _∷_, map}
 use lib.ListN.{take, length}
 use Rattle.time.specs.declared.Instant.{Instant}
@@ -19,22 +19,28 @@ use Rattle.neighbor.specs.declared.Changed.{Changed}
 use Rattle.neighbor.specs.declared.Removed.{Removed}
 use Rattle.neighbor.specs.NeighborRules.{Key}
 use Rattle.neighbor.specs.Distinct.{Distinct}
-use Rattle.neighbor.specs.CacheCalls.{key, empty, entries, LookedUp, GotBy, atIndex, RemovedTo, startTo, insertTo, fillTo, clearTo}
+use Rattle.neighbor.specs.CacheCalls.{key, empty, entries, ifaceCheck, LookedUp, GotBy, atIndex, RemovedTo, startTo, insertTo, fillTo, clearTo}
 use Rattle.wire.specs.declared.error.Check.{Check}
 use Rattle.wire.specs.declared.error.Check.the-variants.{Fine, Refused as Fails}
 use Rattle.wire.specs.Rfc2464.{isUnicastHardware}
 use Rattle.learned.specs.declared.Slaac.{Slaac}
 use Rattle.slaac.specs.declared.LinkLayerAddr.{LinkLayerAddr}
 use Rattle.slaac.specs.declared.LinkLayerAddr.the-variants.{Nothing as NoAddr, Is as IsAddr}
+use Rattle.pending.specs.declared.PendingQueue.{PendingQueue}
+use Rattle.iface.specs.declared.addr.IfaceAddrs.{IfaceAddrs}
+use Rattle.iface.specs.declared.route.Routes.{Routes}
+use Rattle.iface.specs.AddressRules.{clearAddrs}
 use Rattle.slaac.specs.declared.Advertised.{Advertised}
+use Rattle.slaac.specs.declared.TurnedOff.{TurnedOff}
 use Rattle.slaac.specs.Answers.{callCheck}
+use Rattle.slaac.specs.OffRules.{TurnedOffTo}
 use Rattle.slaac.specs.SlaacRules.{messageCheck, optionsIn, lastSource, AdvertisedTo}
 use Rattle.sweep.specs.declared.ProbeEvent.{ProbeEvent}
 use Rattle.sweep.specs.declared.EventSlot.{EventSlot}
 use Rattle.sweep.specs.declared.Events.{Events}
 use Rattle.sweep.specs.declared.Swept.{Swept}
 use Rattle.sweep.specs.SweepCalls.{SweptTo}
-use Rattle.claims.specs.Calls.{Call, lookup, start, fill, insert, get, at, remove, clear, sweep, advertise, Heard, silence, address, next, Answer, refused, done, looked, got, swept, apart, answer, answers, tableAfter}
+use Rattle.claims.specs.Calls.{Call, lookup, start, fill, insert, get, at, remove, clear, sweep, advertise, turnOff, Heard, silence, address, next, Answer, refused, done, looked, got, swept, apart, answer, answers, tableAfter}
 use Rattle.claims.specs.Watch.{gone, reportsAll, toldRun}
 
 -- the functions' answers
@@ -79,6 +85,14 @@ heardBy Fine on message l = cond on (heardMessage message l) silence
 abbrev pub heardIn : Slaac → ℕ → Ipv6Addr → List ℕ → Instant → Heard
 heardIn s i source msg now = heardBy (callCheck now i) (s .on) (messageCheck source msg) (lastSource (optionsIn msg))
 
+-- whether an address went when SLAAC was turned off: none if that is refused, or it was off
+abbrev pub wentBy : Check → Bool → Bool → Bool
+wentBy (Fails why) on any = false
+wentBy Fine on any = cond on any false
+
+abbrev pub wentIn : Slaac → IfaceAddrs → ℕ → Bool
+wentIn s t i = wentBy (ifaceCheck i) (s .on) (clearAddrs t .any)
+
 -- one call on a cache that its function's promise allows, with its answer and the cache after it
 pub data Step : NeighborCache → Call → Answer → NeighborCache → Type 0 where
   looks-up : (c : NeighborCache) (i : ℕ) (a : Ipv6Addr) (r : Found) → LookedUp c i a r → Step c (lookup (key i a)) (ofLookup r) c
@@ -93,6 +107,8 @@ pub data Step : NeighborCache → Call → Answer → NeighborCache → Type 0 w
   clears : (c : NeighborCache) (i : ℕ) (r : Changed) → clearTo c i r → Step c (clear i) (ofOutcome (r .outcome)) (r .cache)
   advertises : (c : NeighborCache) (s : Slaac) (i : ℕ) (source : Ipv6Addr) (msg : List ℕ) (now : Instant) (r : Advertised) → AdvertisedTo s c i source msg now r
       → Step c (advertise (key i source) now (heardIn s i source msg now)) apart (r .cache)
+  turns-off : (c : NeighborCache) (s : Slaac) (t : IfaceAddrs) (r : Routes) (q : PendingQueue) (i : ℕ) (x : TurnedOff) → TurnedOffTo s t r c q i x
+      → Step c (turnOff i (wentIn s t i)) apart (x .cache)
   sweeps : (c : NeighborCache) (k : Clock) (i : ℕ) (r : Swept) → SweptTo c k i r → Step c (sweep i (k .now)) (ofSweep i (r .events) (r .outcome)) (r .cache)
 
 -- calls one after the other

@@ -13,11 +13,14 @@ use Rattle.iface.specs.declared.addr.IfaceAddrs.{IfaceAddrs}
 use Rattle.iface.specs.declared.route.Routes.{Routes}
 use Rattle.learned.specs.declared.Slaac.{Slaac}
 use Rattle.slaac.specs.declared.Polled.{Polled}
-use Rattle.slaac.specs.PollRules.{PolledTo}
+use Rattle.slaac.specs.declared.PolledAt.{PolledAt}
+use Rattle.slaac.specs.PollRules.{PolledTo, PolledBy}
 
 pub record Clocks : Type 0 where
   -- a sweep, refused ones too
   pub sweep : (c : NeighborCache) (k : Clock) (i : ℕ) (r : Swept) → SweptTo c k i r → Forward k (r .clock)
-  -- a poll, refused ones too
-  pub poll : (s : Slaac) (t : IfaceAddrs) (r : Routes) (i : ℕ) (up : Bool) (hw : HardwareAddress) (buf : List ℕ) (k : Clock) (p : Polled) (buf' : List ℕ)
+  -- a poll, refused ones too, with the clock by value and with the clock lent
+  pub poll-at : (s : Slaac) (t : IfaceAddrs) (r : Routes) (i : ℕ) (up : Bool) (hw : HardwareAddress) (buf : List ℕ) (k : Clock) (p : PolledAt) (buf' : List ℕ)
       → PolledTo s t r i up hw buf k p buf' → Forward k (p .clock)
+  pub poll : (s : Slaac) (t : IfaceAddrs) (r : Routes) (i : ℕ) (up : Bool) (hw : HardwareAddress) (buf : List ℕ) (k : Clock) (p : Polled) (buf' : List ℕ) (k' : Clock)
+      → PolledBy s t r i up hw buf k p buf' k' → Forward k k'

@@ -17,6 +17,7 @@ use Rattle.wire.specs.Rfc4291.{sameAddr}
 use Rattle.ndisc.specs.declared.ndiscoption.PrefixInformation.{PrefixInformation}
 use Rattle.ndisc.specs.Rfc4861Messages.{routerAdvertAt}
 use Rattle.neighbor.specs.declared.NeighborCache.{NeighborCache}
+use Rattle.pending.specs.declared.PendingQueue.{PendingQueue}
 use Rattle.iface.specs.declared.addr.IfaceAddr.{IfaceAddr}
 use Rattle.iface.specs.declared.addr.IfaceAddrs.{IfaceAddrs}
 use Rattle.iface.specs.declared.addr.Added.{Added}
@@ -33,8 +34,11 @@ use Rattle.learned.specs.LearnedRules.{prefixesOf, routersOf, isSkipped, cidrOf
 use Rattle.learned.specs.DiscoveryRules.{RestartedTo, TurnedOnTo}
 use Rattle.slaac.specs.declared.Advertised.{Advertised}
 use Rattle.slaac.specs.declared.Polled.{Polled}
+use Rattle.slaac.specs.declared.PolledAt.{PolledAt}
+use Rattle.slaac.specs.declared.TurnedOff.{TurnedOff}
 use Rattle.slaac.specs.SlaacRules.{optionsIn, prefixOptions, AdvertisedTo}
-use Rattle.slaac.specs.PollRules.{PolledTo}
+use Rattle.slaac.specs.PollRules.{PolledTo, PolledBy}
+use Rattle.slaac.specs.OffRules.{TurnedOffTo}
 
 -- each entry is so
 abbrev pub All : {A : Type 0} → (A → Type 0) → List A → Type 0
@@ -58,24 +62,36 @@ pub data HostCall : Type 0 where
   -- the application adds an address, or a route of any interface
   addAddr : HostCall
   addRoute : HostCall
-  -- another interface is polled
+  turnOff : HostCall
+  -- another interface is polled, or SLAAC is turned off there
   pollElsewhere : HostCall
+  offElsewhere : HostCall
 
--- one call that its function's promise allows, on interface i with hardware address hw
+-- one call that its function's promise allows, on interface i with hardware address hw; polls with the clock lent, and with it by value
 pub data Step (i : ℕ) (hw : HardwareAddress) : Host → HostCall → Host → Type 0 where
   advertised : (x : Host) (c : NeighborCache) (source : Ipv6Addr) (msg : List ℕ) (now : Instant) (r : Advertised) → AdvertisedTo (x .slaac) c i source msg now r
       → Step i hw x (advertise source msg now) (record { slaac = r .slaac; addrs = x .addrs; routes = x .routes })
-  polled : (x : Host) (up : Bool) (buf buf' : List ℕ) (k : Clock) (r : Polled) → PolledTo (x .slaac) (x .addrs) (x .routes) i up hw buf k r buf'
+  polled : (x : Host) (up : Bool) (buf buf' : List ℕ) (k k' : Clock) (r : Polled) → PolledBy (x .slaac) (x .addrs) (x .routes) i up hw buf k r buf' k'
       → Step i hw x (poll (k .now)) (record { slaac = r .slaac; addrs = r .addrs; routes = r .routes })
+  polled-at : (x : Host) (up : Bool) (buf buf' : List ℕ) (k : Clock) (r : PolledAt) → PolledTo (x .slaac) (x .addrs) (x .routes) i up hw buf k r buf'
+      → Step i hw x (poll (k .now)) (record { slaac = r .polled .slaac; addrs = r .polled .addrs; routes = r .polled .routes })
   restarted : (x : Host) (r : Changed) → RestartedTo (x .slaac) i r → Step i hw x restart (record { slaac = r .slaac; addrs = x .addrs; routes = x .routes })
   turned-on : (x : Host) (r : Changed) → TurnedOnTo (x .slaac) i r → Step i hw x turnOn (record { slaac = r .slaac; addrs = x .addrs; routes = x .routes })
   addr-added : (x : Host) (c : Ipv6Cidr) (r : Added) → AddedTo (x .addrs) i c r
       → Step i hw x addAddr (record { slaac = x .slaac; addrs = r .addrs; routes = x .routes })
   route-added : (x : Host) (j : ℕ) (c : Ipv6Cidr) (via : Ipv6Addr) (r : AddedRoute) → AddedRouteTo (x .routes) j c via r
       → Step i hw x addRoute (record { slaac = x .slaac; addrs = x .addrs; routes = r .routes })
-  polled-elsewhere : (x : Host) (j : ℕ) (s : Slaac) (t : IfaceAddrs) (up : Bool) (h : HardwareAddress) (buf buf' : List ℕ) (k : Clock) (r : Polled) → (j ≡ i → ⊥)
-      → PolledTo s t (x .routes) j up h buf k r buf'
+  turned-off : (x : Host) (c : NeighborCache) (q : PendingQueue) (r : TurnedOff) → TurnedOffTo (x .slaac) (x .addrs) (x .routes) c q i r
+      → Step i hw x turnOff (record { slaac = r .slaac; addrs = r .addrs; routes = r .routes })
+  polled-elsewhere : (x : Host) (j : ℕ) (s : Slaac) (t : IfaceAddrs) (up : Bool) (h : HardwareAddress) (buf buf' : List ℕ) (k k' : Clock) (r : Polled)
+      → (j ≡ i → ⊥) → PolledBy s t (x .routes) j up h buf k r buf' k'
       → Step i hw x pollElsewhere (record { slaac = x .slaac; addrs = x .addrs; routes = r .routes })
+  polled-at-elsewhere : (x : Host) (j : ℕ) (s : Slaac) (t : IfaceAddrs) (up : Bool) (h : HardwareAddress) (buf buf' : List ℕ) (k : Clock) (r : PolledAt)
+      → (j ≡ i → ⊥) → PolledTo s t (x .routes) j up h buf k r buf'
+      → Step i hw x pollElsewhere (record { slaac = x .slaac; addrs = x .addrs; routes = r .polled .routes })
+  off-elsewhere : (x : Host) (j : ℕ) (s : Slaac) (t : IfaceAddrs) (c : NeighborCache) (q : PendingQueue) (r : TurnedOff)
+      → (j ≡ i → ⊥) → TurnedOffTo s t (x .routes) c q j r
+      → Step i hw x offElsewhere (record { slaac = x .slaac; addrs = x .addrs; routes = r .routes })
 
 -- calls one after the other
 pub data Run (i : ℕ) (hw : HardwareAddress) : Host → List HostCall → Host → Type 0 where
@@ -97,6 +113,7 @@ abbrev pub Spares : ℕ → HardwareAddress → Ipv6Cidr → Instant → PrefixI
 Spares v hw a now o = isSkipped o ≡ false → LastsTo v hw a (prefixOf o now)
 
 -- a call that does not end the address before v: a poll before v, an advertisement whose prefixes spare it, and any other
+-- but turning SLAAC off on the interface itself, which "removes its addresses and routes"
 abbrev pub Harmless : ℕ → HardwareAddress → Ipv6Cidr → HostCall → Type 0
 Harmless v hw a (advertise source msg now) = All (Spares v hw a now) (prefixOptions (optionsIn msg))
 Harmless v hw a (poll now) = now .0 < v
@@ -104,7 +121,9 @@ Harmless v hw a restart = Unit {0}
 Harmless v hw a turnOn = Unit {0}
 Harmless v hw a addAddr = Unit {0}
 Harmless v hw a addRoute = Unit {0}
+Harmless v hw a turnOff = ⊥
 Harmless v hw a pollElsewhere = Unit {0}
+Harmless v hw a offElsewhere = Unit {0}
 
 -- the same without times: a poll before v, an advertisement that names no prefix that forms the address, and any other
 abbrev pub Names : HardwareAddress → Ipv6Cidr → PrefixInformation → Type 0
@@ -117,7 +136,9 @@ Silent v hw a restart = Unit {0}
 Silent v hw a turnOn = Unit {0}
 Silent v hw a addAddr = Unit {0}
 Silent v hw a addRoute = Unit {0}
+Silent v hw a turnOff = ⊥
 Silent v hw a pollElsewhere = Unit {0}
+Silent v hw a offElsewhere = Unit {0}
 
 -- Routes
 
@@ -140,7 +161,9 @@ HarmlessTo v via restart = Unit {0}
 HarmlessTo v via turnOn = Unit {0}
 HarmlessTo v via addAddr = Unit {0}
 HarmlessTo v via addRoute = Unit {0}
+HarmlessTo v via turnOff = ⊥
 HarmlessTo v via pollElsewhere = Unit {0}
+HarmlessTo v via offElsewhere = Unit {0}
 
 -- the same without times: a poll before v, an advertisement of another router, and any other
 abbrev pub SilentTo : ℕ → Ipv6Addr → HostCall → Type 0
@@ -150,13 +173,16 @@ SilentTo v via restart = Unit {0}
 SilentTo v via turnOn = Unit {0}
 SilentTo v via addAddr = Unit {0}
 SilentTo v via addRoute = Unit {0}
+SilentTo v via turnOff = ⊥
 SilentTo v via pollElsewhere = Unit {0}
+SilentTo v via offElsewhere = Unit {0}
 
--- The claim. Turning SLAAC off on the interface is no call of these runs: it "removes its addresses and routes".
+-- The claim
 
 pub record NotEarly : Type 0 where
   -- A SLAAC address stands, and every prefix of the table that forms it is valid until v or longer. Whatever advertisements come that do not
-  -- say otherwise of such a prefix, whatever the application adds and however often discovery restarts: before a poll at v or later it stands.
+  -- say otherwise of such a prefix, whatever the application adds and however often discovery restarts: short of
+  -- turning SLAAC off there, before a poll at v or later it stands.
   pub address : (i : ℕ) (hw : HardwareAddress) (a : Ipv6Cidr) (v : ℕ) (x y : Host) (cs : List HostCall) → Run i hw x cs y
       → stands a (addrsOf (x .addrs)) ≡ true → All (LastsTo v hw a) (prefixesOf (x .slaac)) → All (Harmless v hw a) cs
       → stands a (addrsOf (y .addrs)) ≡ true

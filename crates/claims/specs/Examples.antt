@@ -86,7 +86,7 @@ abbrev pub hears : Slaac → List ℕ → ℕ → Advertised
 hears s msg now = callBy (callCheck (ms now) 0) s empty 0 router msg (ms now)
 
 abbrev pub polls : Slaac → IfaceAddrs → Routes → ℕ → Polled
-polls s t r now = pollBy (callCheck (ms now) 0) s t r 0 true mac (replicate 16 0) (idle (ms now))
+polls s t r now = pollBy (callCheck (ms now) 0) s t r 0 true mac (replicate 16 0) (idle (ms now)) .polled
 
 abbrev pub sends : Slaac → IfaceAddrs → ℕ → List ℕ
 sends s t now = pollBuffer (callCheck (ms now) 0) s t true mac (replicate 16 0) (idle (ms now))
