@@ -53,7 +53,7 @@ use Rattle.learned.specs.declared.Outcome.the-variants.{Done}
 use Rattle.iface.specs.declared.addr.Added.{Added}
 use Rattle.iface.specs.declared.route.AddedRoute.{AddedRoute}
 use Rattle.slaac.specs.declared.PollAnswer.{PollAnswer}
-use Rattle.claims.specs.Early.{All, Host, HostCall, advertise, poll, restart, turnOn, addAddr, addRoute, turnOff, pollElsewhere, offElsewhere, Step, advertised, polled, polled-at, restarted, turned-on, addr-added, route-added, turned-off, polled-elsewhere, polled-at-elsewhere, off-elsewhere, Run, none, one-more, stands, LastsTo, Spares, Harmless, Silent, routeStands, RouterLastsTo, RouterSpares, HarmlessTo, SilentTo, NotEarly}
+use Rattle.claims.specs.Early.{All, Host, HostCall, advertise, poll, restart, turnOn, addAddr, addRoute, turnOff, pollElsewhere, offElsewhere, Step, advertised, polled, polled-at, restarted, turned-on, addr-added, route-added, turned-off, polled-elsewhere, polled-at-elsewhere, off-elsewhere, Run, none, one-more, Before, stands, LastsTo, Spares, Harmless, Silent, routeStands, RouterLastsTo, RouterSpares, HarmlessTo, SilentTo, NotEarly}
 use Rattle.claims.proofs.Standing.{entries-with, put-stands, drop-stands, add-stands, process-lasts, leave-lasts, router-apart, put-route-stands, drop-route-stands, clear-route-stands, add-route-stands, process-router, leave-router, prefix-apart, expired-other, expired-router}
 
 -- Addresses
@@ -427,28 +427,29 @@ module _ (v : ℕ) (via : Ipv6Addr) where
 
 -- The claim
 
+-- calls before v, by what their advertisements are
+before-map : (v : ℕ) (P Q : Ipv6Addr → List ℕ → Instant → Type 0) → ((source : Ipv6Addr) (msg : List ℕ) (now : Instant) → P source msg now → Q source msg now)
+    → (c : HostCall) → Before v P c → Before v Q c
+before-map v P Q f (advertise source msg now) h = f source msg now h
+before-map v P Q f (poll now) h = h
+before-map v P Q f restart h = h
+before-map v P Q f turnOn h = h
+before-map v P Q f addAddr h = h
+before-map v P Q f addRoute h = h
+before-map v P Q f turnOff h = h
+before-map v P Q f pollElsewhere h = h
+before-map v P Q f offElsewhere h = h
+
 -- an advertisement that names no prefix that forms the address spares it, whatever the time
 silent-harmless : (v : ℕ) (hw : HardwareAddress) (a : Ipv6Cidr) (c : HostCall) → Silent v hw a c → Harmless v hw a c
-silent-harmless v hw a (advertise source msg now) h = all-map _ (Spares v hw a now) (λ o n e f. absurd (n (e, f))) (prefixOptions (optionsIn msg)) h
-silent-harmless v hw a (poll now) h = h
-silent-harmless v hw a restart h = tt
-silent-harmless v hw a turnOn h = tt
-silent-harmless v hw a addAddr h = tt
-silent-harmless v hw a addRoute h = tt
-silent-harmless v hw a turnOff h = absurd h
-silent-harmless v hw a pollElsewhere h = tt
-silent-harmless v hw a offElsewhere h = tt
+silent-harmless v hw a c h =
+    before-map v _ (λ source msg now. All (Spares v hw a now) (prefixOptions (optionsIn msg)))
+    (λ source msg now g. all-map _ (Spares v hw a now) (λ o n e f. absurd (n (e, f))) (prefixOptions (optionsIn msg)) g) c h
 
 silent-router : (v : ℕ) (via : Ipv6Addr) (c : HostCall) → SilentTo v via c → HarmlessTo v via c
-silent-router v via (advertise source msg now) h = λ e. absurd (true≢false (sym e ∙ h))
-silent-router v via (poll now) h = h
-silent-router v via restart h = tt
-silent-router v via turnOn h = tt
-silent-router v via addAddr h = tt
-silent-router v via addRoute h = tt
-silent-router v via turnOff h = absurd h
-silent-router v via pollElsewhere h = tt
-silent-router v via offElsewhere h = tt
+silent-router v via c h =
+    before-map v _ (λ source msg now. RouterSpares v via now source (secondsOf (routerAdvertAt msg .«router_lifetime»)))
+    (λ source msg now g e. absurd (true≢false (sym e ∙ g))) c h
 
 router-ends : (p q : Router) → q ≡ p → p .«valid_until» .0 ≤ q .«valid_until» .0
 router-ends p q same = rw same (omega arith)

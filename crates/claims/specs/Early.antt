@@ -98,6 +98,19 @@ pub data Run (i : ℕ) (hw : HardwareAddress) : Host → List HostCall → Host 
   none : (x : Host) → Run i hw x [] x
   one-more : {x y z : Host} {c : HostCall} {cs : List HostCall} → Step i hw x c y → Run i hw y cs z → Run i hw x (c ∷ cs) z
 
+-- A call before v: a poll, if its now is, an advertisement that is as `spares` says, and any other but turning SLAAC off on the
+-- interface itself, which "removes its addresses and routes"
+abbrev pub Before : ℕ → (Ipv6Addr → List ℕ → Instant → Type 0) → HostCall → Type 0
+Before v spares (advertise source msg now) = spares source msg now
+Before v spares (poll now) = now .0 < v
+Before v spares restart = Unit {0}
+Before v spares turnOn = Unit {0}
+Before v spares addAddr = Unit {0}
+Before v spares addRoute = Unit {0}
+Before v spares turnOff = ⊥
+Before v spares pollElsewhere = Unit {0}
+Before v spares offElsewhere = Unit {0}
+
 -- Addresses
 
 -- the entry of that address and length is there, and SLAAC's
@@ -112,33 +125,15 @@ LastsTo v hw a p = formedOf hw (p .cidr) ≡ Addr a → v ≤ p .«valid_until»
 abbrev pub Spares : ℕ → HardwareAddress → Ipv6Cidr → Instant → PrefixInformation → Type 0
 Spares v hw a now o = isSkipped o ≡ false → LastsTo v hw a (prefixOf o now)
 
--- a call that does not end the address before v: a poll before v, an advertisement whose prefixes spare it, and any other
--- but turning SLAAC off on the interface itself, which "removes its addresses and routes"
+-- the advertisement's prefixes spare the address; or, without times, none of them forms it
 abbrev pub Harmless : ℕ → HardwareAddress → Ipv6Cidr → HostCall → Type 0
-Harmless v hw a (advertise source msg now) = All (Spares v hw a now) (prefixOptions (optionsIn msg))
-Harmless v hw a (poll now) = now .0 < v
-Harmless v hw a restart = Unit {0}
-Harmless v hw a turnOn = Unit {0}
-Harmless v hw a addAddr = Unit {0}
-Harmless v hw a addRoute = Unit {0}
-Harmless v hw a turnOff = ⊥
-Harmless v hw a pollElsewhere = Unit {0}
-Harmless v hw a offElsewhere = Unit {0}
+Harmless v hw a c = Before v (λ source msg now. All (Spares v hw a now) (prefixOptions (optionsIn msg))) c
 
--- the same without times: a poll before v, an advertisement that names no prefix that forms the address, and any other
 abbrev pub Names : HardwareAddress → Ipv6Cidr → PrefixInformation → Type 0
 Names hw a o = (isSkipped o ≡ false) × (formedOf hw (cidrOf o) ≡ Addr a)
 
 abbrev pub Silent : ℕ → HardwareAddress → Ipv6Cidr → HostCall → Type 0
-Silent v hw a (advertise source msg now) = All (λ o. Names hw a o → ⊥) (prefixOptions (optionsIn msg))
-Silent v hw a (poll now) = now .0 < v
-Silent v hw a restart = Unit {0}
-Silent v hw a turnOn = Unit {0}
-Silent v hw a addAddr = Unit {0}
-Silent v hw a addRoute = Unit {0}
-Silent v hw a turnOff = ⊥
-Silent v hw a pollElsewhere = Unit {0}
-Silent v hw a offElsewhere = Unit {0}
+Silent v hw a c = Before v (λ source msg now. All (λ o. Names hw a o → ⊥) (prefixOptions (optionsIn msg))) c
 
 -- Routes
 
@@ -155,27 +150,11 @@ abbrev pub RouterSpares : ℕ → Ipv6Addr → Instant → Ipv6Addr → Duration
 RouterSpares v via now source lifetime = sameAddr source via ≡ true → v ≤ addOf now lifetime .0
 
 abbrev pub HarmlessTo : ℕ → Ipv6Addr → HostCall → Type 0
-HarmlessTo v via (advertise source msg now) = RouterSpares v via now source (secondsOf (routerAdvertAt msg .«router_lifetime»))
-HarmlessTo v via (poll now) = now .0 < v
-HarmlessTo v via restart = Unit {0}
-HarmlessTo v via turnOn = Unit {0}
-HarmlessTo v via addAddr = Unit {0}
-HarmlessTo v via addRoute = Unit {0}
-HarmlessTo v via turnOff = ⊥
-HarmlessTo v via pollElsewhere = Unit {0}
-HarmlessTo v via offElsewhere = Unit {0}
+HarmlessTo v via c = Before v (λ source msg now. RouterSpares v via now source (secondsOf (routerAdvertAt msg .«router_lifetime»))) c
 
--- the same without times: a poll before v, an advertisement of another router, and any other
+-- or, without times, it is another router's
 abbrev pub SilentTo : ℕ → Ipv6Addr → HostCall → Type 0
-SilentTo v via (advertise source msg now) = sameAddr source via ≡ false
-SilentTo v via (poll now) = now .0 < v
-SilentTo v via restart = Unit {0}
-SilentTo v via turnOn = Unit {0}
-SilentTo v via addAddr = Unit {0}
-SilentTo v via addRoute = Unit {0}
-SilentTo v via turnOff = ⊥
-SilentTo v via pollElsewhere = Unit {0}
-SilentTo v via offElsewhere = Unit {0}
+SilentTo v via c = Before v (λ source msg now. sameAddr source via ≡ false) c
 
 -- The claim
 
