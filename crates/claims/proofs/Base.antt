@@ -1,10 +1,10 @@
 -- Facts of lists. Assumes nothing.
 use Prim.Native.Nat.{ℕ, zero, suc, _≤_}
-use native.Mathlib.Omega.{arith}
-use mathlib.Core.Path.{_≡_, refl, ap}
+use lib.ListN.{length, length-append}
 use mathlib.Core.Bool.{Bool, true, false, cond}
 use mathlib.Core.List.{List, [], _∷_, _++_}
-use lib.ListN.{length, length-append}
+use mathlib.Core.Path.{_≡_, refl, ap}
+use native.Mathlib.Omega.{arith}
 use Rattle.table.specs.Table.{swapRemove, lastOf, frontOf, lastFirst, kept}
 
 pub append-nil : {A : Type 0} (l : List A) → l ++ [] ≡ l

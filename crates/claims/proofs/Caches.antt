@@ -9,9 +9,14 @@ use mathlib.Core.List.{List, [], _∷_, map}
 use mathlib.Core.Path.{_≡_, refl, sym, ap, _∙_, subst}
 use native.Mathlib.Omega.{arith}
 use Rattle.claims.proofs.Demand3.{demand3}
-use Rattle.claims.specs.Caches.{ofLookup, ofGot, ofOutcome, ofSweep, eventOf, eventList, Step, looks-up, starts, fills, inserts, gets, lists, removes, clears, advertises, turns-off, sweeps, wentBy, heardAddr, heardMessage, heardBy, Run, none, one-more, OnCaches}
+use Rattle.claims.specs.Caches.{ofLookup, ofGot, ofOutcome, ofSweep, eventOf, eventList, Step, looks-up, starts, fills, inserts, gets, lists, removes, clears, advertises, turns-off, sweeps, sweeps-at, wentBy, heardAddr, heardMessage, heardBy, Run, none, one-more, OnCaches}
 use Rattle.claims.specs.Calls.{Call, lookup, start, fill, insert, get, remove, clear, sweep, advertise, turnOff, silence, address, reachable, check, meant, does, next, Answer, done, looked, got, swept, answer, answerBy, effectBy, answers, tableAfter, reply}
 use Rattle.claims.specs.Watch.{reportsAll}
+use Rattle.iface.specs.AddressRules.{clearAddrs}
+use Rattle.iface.specs.declared.addr.IfaceAddrs.{IfaceAddrs}
+use Rattle.iface.specs.declared.route.Routes.{Routes}
+use Rattle.learned.specs.declared.Outcome.the-variants.{Done}
+use Rattle.learned.specs.declared.Slaac.{Slaac}
 use Rattle.neighbor.specs.Answers.{answerOf}
 use Rattle.neighbor.specs.CacheCalls.{key, entries, withEntries, changeBy, ChangedTo, lookupBy, getBy, removeBy, keyCheck, fillCheck, ifaceCheck, answerIn, shown, blank}
 use Rattle.neighbor.specs.Distinct.{Distinct}
@@ -24,6 +29,15 @@ use Rattle.neighbor.specs.declared.NeighborCache.{NeighborCache}
 use Rattle.neighbor.specs.declared.Removed.{Removed}
 use Rattle.neighbor.specs.declared.State.the-variants.{Started, Incomplete, Reachable, Stale}
 use Rattle.neighbor.specs.declared.State.{State}
+use Rattle.pending.specs.declared.PendingQueue.{PendingQueue}
+use Rattle.slaac.specs.Answers.{callCheck}
+use Rattle.slaac.specs.OffRules.{clearedCache, offNow, offBy}
+use Rattle.slaac.specs.SlaacRules.{messageCheck, optionsIn, lastSource, filledBy, step5, advertBy, callBy}
+use Rattle.slaac.specs.declared.AdvertAnswer.the-variants.{Off}
+use Rattle.slaac.specs.declared.Advertised.{Advertised}
+use Rattle.slaac.specs.declared.LinkLayerAddr.the-variants.{Nothing as NoAddr, Is as IsAddr}
+use Rattle.slaac.specs.declared.LinkLayerAddr.{LinkLayerAddr}
+use Rattle.slaac.specs.declared.TurnedOff.{TurnedOff}
 use Rattle.sweep.proofs.Entries.{entries-of, sweep-entries, sweep-events}
 use Rattle.sweep.specs.SweepCalls.{nothing, slotOf, eventsTable, sweptIn, sweepBy, sweepCheck}
 use Rattle.sweep.specs.SweepRules.{sweepTable}
@@ -31,24 +45,10 @@ use Rattle.sweep.specs.declared.ProbeEvent.{ProbeEvent}
 use Rattle.table.specs.Table.{swapRemove, firstOf}
 use Rattle.time.specs.declared.Clock.{Clock}
 use Rattle.time.specs.declared.Instant.{Instant}
-use Rattle.wire.specs.declared.ipv6.Ipv6Addr.{Ipv6Addr}
 use Rattle.wire.specs.Rfc2464.{isUnicastHardware}
-use Rattle.learned.specs.declared.Slaac.{Slaac}
-use Rattle.slaac.specs.declared.LinkLayerAddr.{LinkLayerAddr}
-use Rattle.slaac.specs.declared.LinkLayerAddr.the-variants.{Nothing as NoAddr, Is as IsAddr}
-use Rattle.pending.specs.declared.PendingQueue.{PendingQueue}
-use Rattle.iface.specs.declared.addr.IfaceAddrs.{IfaceAddrs}
-use Rattle.iface.specs.declared.route.Routes.{Routes}
-use Rattle.iface.specs.AddressRules.{clearAddrs}
-use Rattle.learned.specs.declared.Outcome.the-variants.{Done}
-use Rattle.slaac.specs.declared.TurnedOff.{TurnedOff}
-use Rattle.slaac.specs.OffRules.{clearedCache, offNow, offBy}
-use Rattle.slaac.specs.declared.Advertised.{Advertised}
-use Rattle.slaac.specs.declared.AdvertAnswer.the-variants.{Off}
-use Rattle.slaac.specs.Answers.{callCheck}
-use Rattle.slaac.specs.SlaacRules.{messageCheck, optionsIn, lastSource, filledBy, step5, advertBy, callBy}
 use Rattle.wire.specs.declared.error.Check.the-variants.{Fine, Refused as Fails}
 use Rattle.wire.specs.declared.error.Check.{Check}
+use Rattle.wire.specs.declared.ipv6.Ipv6Addr.{Ipv6Addr}
 
 -- a call that changes the entries
 changes : (x : Check) (call : Call) (c : NeighborCache) (xs : Table) → does (meant call) (entries c) ≡ xs → reply call (entries c) ≡ done
@@ -207,7 +207,8 @@ follows (removes c i a r h) = rw (h .is) (removing (ifaceCheck i) c (key i a))
 follows (clears c i r h) = changed (ifaceCheck i) (clear i) c r h refl
 follows (advertises c s i source msg now r h) = (refl, ap (λ (q : Advertised). entries (q .cache)) (h .is) ∙ hearing (callCheck now i) s c i source msg now)
 follows (turns-off c s t r q i x h) = (refl, ap (λ (w : TurnedOff). entries (w .cache)) (h .is) ∙ turning (ifaceCheck i) s t r c q i)
-follows (sweeps c k i r h) = rw (h .is) (sweeping (sweepCheck k i) c k i)
+follows (sweeps c k k' i r h) = rw (h .is) (sweeping (sweepCheck k i) c k i)
+follows (sweeps-at c k i r h) = rw (h .is) (sweeping (sweepCheck k i) c k i)
 
 more : (c : NeighborCache) (call : Call) (a : Answer) (d : NeighborCache) (cs : List Call) (as′ : List Answer) (e : NeighborCache) → Follows c call a d
     → (as′ ≡ answers cs (entries d)) × (entries e ≡ tableAfter cs (entries d))

@@ -1,31 +1,31 @@
 -- What each call, and each run of calls, does to one key. Assumes nothing.
 use Prim.Native.Nat.{ℕ, _^_, _≤_}
-use native.Mathlib.Omega.{arith}
-use mathlib.Core.Path.{_≡_, refl, ap, _∙_}
-use mathlib.Core.Logic.{_⊎_, inl, inr}
+use borrow.Author.Tests.{ltb-false}
+use lib.Dec.{T, ltb, eqb}
+use lib.ListN.{length}
 use mathlib.Core.Bool.{Bool, true, false, cond, not, _&&_, true≢false}
 use mathlib.Core.List.{List, [], _∷_}
-use lib.ListN.{length}
-use lib.Dec.{T, ltb, eqb}
-use borrow.Author.Tests.{ltb-false}
-use Rattle.table.specs.Table.{kept}
-use Rattle.time.specs.declared.Instant.{Instant}
-use Rattle.wire.specs.declared.error.Refusal.the-variants.{TooLate, NoSuchIface}
-use Rattle.wire.specs.declared.error.Check.{Check}
-use Rattle.wire.specs.declared.error.Check.the-variants.{Fine, Refused as Fails}
-use Rattle.wire.specs.Refusals.{firstRefusal, tooLate, noSuchIface}
-use Rattle.neighbor.specs.declared.State.{State}
-use Rattle.neighbor.specs.NeighborRules.{Table, Key, sameKey, insertState, removeKey, onIface, clearIface, entriesOf}
-use Rattle.neighbor.specs.CacheCalls.{keyCheck, fillCheck, ifaceCheck}
-use Rattle.neighbor.specs.Distinct.{Distinct}
-use Rattle.neighbor.proofs.Keys.{sameKey-true}
-use Rattle.neighbor.proofs.OneKey.{put-own, remove-own, remove-other, clear-own, clear-other}
-use Rattle.neighbor.proofs.Distinct.{distinct-put, distinct-remove, distinct-clear}
-use Rattle.claims.specs.Calls.{silence, address, Call, lookup, start, fill, insert, get, at, remove, clear, sweep, advertise, turnOff, check, Effect, nothing, puts, removes, clears, sweeps, meant, effectBy, effect, does, next, reply, answerBy, answer, answers, tableAfter}
-use Rattle.claims.specs.Watch.{reportsIn, reportsAll, gone, watchOfState, watchOf, watchEffect, toldEffect, watchCall, toldBy, watchAll, toldAll, ownsEffect, owns, isSweepEffect, isSweep, putsOtherEffect, held, evicts, Kept, toldRun, isFilled, anyFilled}
+use mathlib.Core.Logic.{_⊎_, inl, inr}
+use mathlib.Core.Path.{_≡_, refl, ap, _∙_}
+use native.Mathlib.Omega.{arith}
 use Rattle.claims.proofs.Base.{kept-length}
 use Rattle.claims.proofs.Put.{Evicted, put-apart, put-length, remove-length}
 use Rattle.claims.proofs.Sweep.{sweep-entries, sweep-tells, watch-sweeps, told-sweeps, sweep-few, sweep-length}
+use Rattle.claims.specs.Calls.{silence, address, Call, lookup, start, fill, insert, get, at, remove, clear, sweep, advertise, turnOff, check, Effect, nothing, puts, removes, clears, sweeps, meant, effectBy, effect, does, next, reply, answerBy, answer, answers, tableAfter}
+use Rattle.claims.specs.Watch.{reportsIn, reportsAll, gone, watchOfState, watchOf, watchEffect, toldEffect, watchCall, toldBy, watchAll, toldAll, ownsEffect, owns, isSweepEffect, isSweep, putsOtherEffect, held, evicts, Kept, toldRun, isFilled, anyFilled}
+use Rattle.neighbor.proofs.Distinct.{distinct-put, distinct-remove, distinct-clear}
+use Rattle.neighbor.proofs.Keys.{sameKey-true}
+use Rattle.neighbor.proofs.OneKey.{put-own, remove-own, remove-other, clear-own, clear-other}
+use Rattle.neighbor.specs.CacheCalls.{keyCheck, fillCheck, ifaceCheck}
+use Rattle.neighbor.specs.Distinct.{Distinct}
+use Rattle.neighbor.specs.NeighborRules.{Table, Key, sameKey, insertState, removeKey, onIface, clearIface, entriesOf}
+use Rattle.neighbor.specs.declared.State.{State}
+use Rattle.table.specs.Table.{kept}
+use Rattle.time.specs.declared.Instant.{Instant}
+use Rattle.wire.specs.Refusals.{firstRefusal, tooLate, noSuchIface}
+use Rattle.wire.specs.declared.error.Check.the-variants.{Fine, Refused as Fails}
+use Rattle.wire.specs.declared.error.Check.{Check}
+use Rattle.wire.specs.declared.error.Refusal.the-variants.{TooLate, NoSuchIface}
 
 -- Effects
 

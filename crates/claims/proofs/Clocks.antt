@@ -1,47 +1,47 @@
 -- Sweeps and polls only bring the deadline forward. Assumes nothing.
 use Prim.Native.Nat.{ℕ, _-_}
 use lib.Dec.{eqb}
-use mathlib.Core.Path.{_≡_, sym, ap, subst}
 use mathlib.Core.Bool.{Bool, true, false, cond}
 use mathlib.Core.List.{List, [], _∷_}
-use Rattle.table.specs.Table.{foldOver}
-use Rattle.time.specs.declared.Instant.{Instant}
-use Rattle.time.specs.declared.Clock.{Clock}
-use Rattle.time.specs.declared.Answer.{Answer}
-use Rattle.time.specs.ClockRules.{scheduledOf}
-use Rattle.time.specs.Forward.{Forward}
-use Rattle.time.proofs.Forward.{unmoved, then, scheduling, asking}
-use Rattle.wire.specs.declared.error.Check.{Check}
-use Rattle.wire.specs.declared.error.Check.the-variants.{Fine, Refused as Fails}
-use Rattle.wire.specs.declared.ethernet.HardwareAddress.{HardwareAddress}
-use Rattle.neighbor.specs.declared.State.{State}
-use Rattle.neighbor.specs.declared.State.the-variants.{Started, Incomplete, Reachable, Stale}
-use Rattle.neighbor.specs.declared.NeighborCache.{NeighborCache}
-use Rattle.neighbor.specs.NeighborRules.{Table}
-use Rattle.sweep.specs.declared.Swept.{Swept}
-use Rattle.sweep.specs.SweepRules.{dueFrom, expireClockState, expireClock, expireClocks}
-use Rattle.sweep.specs.SweepCalls.{sweptIn, sweepBy, sweepCheck}
+use mathlib.Core.Path.{sym, subst}
+use Rattle.claims.specs.Clocks.{Clocks}
 use Rattle.iface.specs.declared.addr.IfaceAddrs.{IfaceAddrs}
-use Rattle.iface.specs.declared.addr.Source.{Source}
 use Rattle.iface.specs.declared.addr.Source.the-variants.{Nothing, From}
+use Rattle.iface.specs.declared.addr.Source.{Source}
 use Rattle.iface.specs.declared.route.Routes.{Routes}
-use Rattle.learned.specs.declared.Prefix.{Prefix}
-use Rattle.learned.specs.declared.Router.{Router}
-use Rattle.learned.specs.declared.Phase.{Phase}
-use Rattle.learned.specs.declared.Phase.the-variants.{Start, Discovering, Maintaining}
-use Rattle.learned.specs.declared.Discovery.{Discovery}
-use Rattle.learned.specs.declared.Solicitation.{Solicitation}
-use Rattle.learned.specs.declared.Slaac.{Slaac}
-use Rattle.learned.specs.LearnedRules.{prefixesOf, routersOf}
 use Rattle.learned.specs.DiscoveryRules.{duePhase, due, retryAt, sent, solicitation, withDiscovery}
 use Rattle.learned.specs.ExpiryRules.{askPrefix, askRouter, syncDue}
-use Rattle.slaac.specs.declared.Turn.{Turn}
-use Rattle.slaac.specs.declared.PolledAt.{PolledAt}
-use Rattle.slaac.specs.declared.PollAnswer.{PollAnswer}
-use Rattle.slaac.specs.declared.PollAnswer.the-variants.{Off}
+use Rattle.learned.specs.LearnedRules.{prefixesOf, routersOf}
+use Rattle.learned.specs.declared.Discovery.{Discovery}
+use Rattle.learned.specs.declared.Phase.the-variants.{Start, Discovering, Maintaining}
+use Rattle.learned.specs.declared.Phase.{Phase}
+use Rattle.learned.specs.declared.Prefix.{Prefix}
+use Rattle.learned.specs.declared.Router.{Router}
+use Rattle.learned.specs.declared.Slaac.{Slaac}
+use Rattle.learned.specs.declared.Solicitation.{Solicitation}
+use Rattle.neighbor.specs.NeighborRules.{Table}
+use Rattle.neighbor.specs.declared.NeighborCache.{NeighborCache}
+use Rattle.neighbor.specs.declared.State.the-variants.{Started, Incomplete, Reachable, Stale}
+use Rattle.neighbor.specs.declared.State.{State}
 use Rattle.slaac.specs.Answers.{callCheck}
 use Rattle.slaac.specs.PollRules.{turnOf, synced, syncTurn, senderIn, pollOn, pollBy}
-use Rattle.claims.specs.Clocks.{Clocks}
+use Rattle.slaac.specs.declared.PollAnswer.the-variants.{Off}
+use Rattle.slaac.specs.declared.PollAnswer.{PollAnswer}
+use Rattle.slaac.specs.declared.PolledAt.{PolledAt}
+use Rattle.slaac.specs.declared.Turn.{Turn}
+use Rattle.sweep.specs.SweepCalls.{sweptIn, sweepBy, sweepCheck}
+use Rattle.sweep.specs.SweepRules.{dueFrom, expireClockState, expireClock, expireClocks}
+use Rattle.sweep.specs.declared.Swept.{Swept}
+use Rattle.table.specs.Table.{foldOver}
+use Rattle.time.proofs.Forward.{unmoved, then, scheduling, asking}
+use Rattle.time.specs.ClockRules.{scheduledOf}
+use Rattle.time.specs.Forward.{Forward}
+use Rattle.time.specs.declared.Answer.{Answer}
+use Rattle.time.specs.declared.Clock.{Clock}
+use Rattle.time.specs.declared.Instant.{Instant}
+use Rattle.wire.specs.declared.error.Check.the-variants.{Fine, Refused as Fails}
+use Rattle.wire.specs.declared.error.Check.{Check}
+use Rattle.wire.specs.declared.ethernet.HardwareAddress.{HardwareAddress}
 
 expiry-forward : (k : Clock) (s : State) → Forward k (expireClockState k s)
 expiry-forward k Started = scheduling k (dueFrom (k .now))
@@ -143,7 +143,8 @@ poll-forward Fine s t r i up hw buf k = go (s .on)
 
 pub clocks : Clocks
 clocks = record {
-  sweep = λ c k i r h. subst (λ (s : Swept). Forward k (s .clock)) (sym (h .is)) (swept-forward (sweepCheck k i) c k i);
+  sweep = λ c k k' i r h. subst (Forward k) (sym (h .clock)) (swept-forward (sweepCheck k i) c k i);
+  sweep-at = λ c k i r h. subst (λ (s : Swept). Forward k (s .clock)) (sym (h .is)) (swept-forward (sweepCheck k i) c k i);
   poll-at =
       λ s t r i up hw buf k p buf' h. subst (λ (q : PolledAt). Forward k (q .clock)) (sym (h .is)) (poll-forward (callCheck (k .now) i) s t r i up hw buf k);
   poll = λ s t r i up hw buf k p buf' k' h. subst (Forward k) (sym (h .clock)) (poll-forward (callCheck (k .now) i) s t r i up hw buf k);

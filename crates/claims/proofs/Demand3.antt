@@ -1,28 +1,28 @@
 -- Demand 3 holds. Assumes nothing.
 use Prim.Native.Nat.{ℕ, suc, _+_, _-_, _^_, _≤_, _<_}
-use native.Mathlib.Omega.{arith}
-use mathlib.Core.Path.{_≡_, refl, sym, ap, _∙_, subst}
+use borrow.Author.Tests.{eq-eqb, ne-eqb, le-leb, lt-leb, leb-true, leb-false}
+use lib.Dec.{T, leb, eqb}
+use lib.ListN.{length, replicate}
 use mathlib.Core.Bool.{Bool, true, false, cond, not, _&&_, _||_, true≢false}
 use mathlib.Core.List.{List, [], _∷_, _++_, map, append-assoc}
-use lib.ListN.{length, replicate}
-use lib.Dec.{T, leb, eqb}
-use borrow.Author.Tests.{eq-eqb, ne-eqb, le-leb, lt-leb, leb-true, leb-false}
-use Rattle.table.specs.Table.{kept}
-use Rattle.time.specs.declared.Instant.{Instant}
-use Rattle.wire.specs.declared.error.Check.{Check}
-use Rattle.wire.specs.declared.error.Check.the-variants.{Fine}
-use Rattle.neighbor.specs.declared.State.{State}
-use Rattle.neighbor.specs.declared.State.the-variants.{Started, Incomplete}
-use Rattle.neighbor.specs.NeighborRules.{Table, Key, sameKey, entriesOf}
-use Rattle.neighbor.specs.Distinct.{Distinct}
-use Rattle.neighbor.proofs.OneKey.{put-own}
-use Rattle.sweep.specs.SweepRules.{expireState}
-use Rattle.claims.specs.Calls.{Call, start, sweep, check, Effect, nothing, puts, removes, clears, sweeps, meant, effectBy, effect, does, next, reply, tableAfter}
-use Rattle.claims.specs.Demand3.{After, counting, joined, left, Alone, Sweeping, Demand3}
-use Rattle.claims.specs.Watch.{later, Report, retransmission, failure, reportsIn, Watch, waiting, dueAt, filled, gone, watchOf, watchSweep, told, watchEffect, toldEffect, watchCall, toldBy, watchAll, toldAll, ownsEffect, owns, isSweepEffect, isSweep, putsOtherEffect, evicts, Kept}
+use mathlib.Core.Path.{_≡_, refl, sym, ap, _∙_, subst}
+use native.Mathlib.Omega.{arith}
 use Rattle.claims.proofs.Calls.{InTime, called-in-time, distinct-next, fits-next, others-keep, evicted-only, call-told, trace-told, trace-watch, trace-run}
 use Rattle.claims.proofs.Sweep.{sweep-entries, sweep-tells, ample, not-yet}
 use Rattle.claims.proofs.Walk.{visitStates, tellStates}
+use Rattle.claims.specs.Calls.{Call, start, sweep, check, Effect, nothing, puts, removes, clears, sweeps, meant, effectBy, effect, does, next, reply, tableAfter}
+use Rattle.claims.specs.Demand3.{After, counting, joined, left, Alone, Sweeping, Demand3}
+use Rattle.claims.specs.Watch.{later, Report, retransmission, failure, reportsIn, Watch, waiting, dueAt, filled, gone, watchOf, watchSweep, told, watchEffect, toldEffect, watchCall, toldBy, watchAll, toldAll, ownsEffect, owns, isSweepEffect, isSweep, putsOtherEffect, evicts, Kept}
+use Rattle.neighbor.proofs.OneKey.{put-own}
+use Rattle.neighbor.specs.Distinct.{Distinct}
+use Rattle.neighbor.specs.NeighborRules.{Table, Key, sameKey, entriesOf}
+use Rattle.neighbor.specs.declared.State.the-variants.{Started, Incomplete}
+use Rattle.neighbor.specs.declared.State.{State}
+use Rattle.sweep.specs.SweepRules.{expireState}
+use Rattle.table.specs.Table.{kept}
+use Rattle.time.specs.declared.Instant.{Instant}
+use Rattle.wire.specs.declared.error.Check.the-variants.{Fine}
+use Rattle.wire.specs.declared.error.Check.{Check}
 
 -- tables that the calls made
 made : (cs : List Call) (t : Table) → Distinct t → length t ≤ 16 → Distinct (tableAfter cs t) × (length (tableAfter cs t) ≤ 16)

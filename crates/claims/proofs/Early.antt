@@ -1,60 +1,56 @@
 -- No address gone early, and no default route. Assumes nothing.
 use Prim.Native.Nat.{ℕ, _≤_, _<_}
-use native.Mathlib.Omega.{arith}
-use mathlib.Core.Path.{_≡_, refl, sym, ap, _∙_, subst}
 use mathlib.Core.Bool.{Bool, true, false, cond, true≢false}
 use mathlib.Core.List.{List, [], _∷_, _++_}
-use Rattle.table.specs.Table.{foldOver}
-use Rattle.time.specs.declared.Instant.{Instant}
-use Rattle.time.specs.declared.Clock.{Clock}
-use Rattle.time.specs.declared.Duration.{Duration}
-use Rattle.time.specs.TimeRules.{addOf, secondsOf}
-use Rattle.wire.specs.declared.ipv6.Ipv6Addr.{Ipv6Addr}
-use Rattle.wire.specs.declared.ipv6.Ipv6Cidr.{Ipv6Cidr}
-use Rattle.wire.specs.declared.ipv6.Formed.{Formed}
-use Rattle.wire.specs.declared.ipv6.Formed.the-variants.{Nothing, Addr}
-use Rattle.wire.specs.declared.ethernet.HardwareAddress.{HardwareAddress}
-use Rattle.wire.specs.declared.error.Check.{Check}
-use Rattle.wire.specs.declared.error.Check.the-variants.{Fine, Refused as Fails}
-use Rattle.wire.specs.Rfc2464.{formedOf}
-use Rattle.wire.specs.Rfc4291.{sameCidr}
-use Rattle.ndisc.specs.declared.ndiscoption.NdiscOption.{NdiscOption}
-use Rattle.ndisc.specs.declared.ndiscoption.PrefixInformation.{PrefixInformation}
-use Rattle.ndisc.specs.Rfc4861Messages.{routerAdvertAt}
-use Rattle.neighbor.specs.declared.NeighborCache.{NeighborCache}
-use Rattle.iface.specs.declared.addr.IfaceAddr.{IfaceAddr}
-use Rattle.iface.specs.declared.addr.IfaceAddrs.{IfaceAddrs}
-use Rattle.iface.specs.declared.addr.Preferred.{Preferred}
-use Rattle.iface.specs.declared.route.Route.{Route}
-use Rattle.iface.specs.declared.route.Routes.{Routes}
+use mathlib.Core.Path.{_≡_, refl, sym, _∙_, subst}
+use native.Mathlib.Omega.{arith}
+use Rattle.claims.proofs.Standing.{entries-with, put-stands, drop-stands, add-stands, process-lasts, leave-lasts, router-apart, put-route-stands, drop-route-stands, clear-route-stands, add-route-stands, process-router, leave-router, prefix-apart, expired-other, expired-router}
+use Rattle.claims.specs.Early.{All, Host, HostCall, advertise, poll, restart, turnOn, addAddr, addRoute, turnOff, pollElsewhere, offElsewhere, Step, advertised, polled, polled-at, restarted, turned-on, addr-added, route-added, turned-off, polled-elsewhere, polled-at-elsewhere, off-elsewhere, Run, none, one-more, Before, stands, LastsTo, Spares, Harmless, Silent, routeStands, RouterLastsTo, RouterSpares, HarmlessTo, SilentTo, NotEarly}
 use Rattle.iface.specs.AddressRules.{addrsOf, withAddrs, manualAddr, addAddrBy, addrCheck, putAddr, dropAddr}
 use Rattle.iface.specs.RouteRules.{routesOf, withRoutes, manualRoute, addRouteBy, routeCheck, putRoute, dropRoute, clearRoutes}
+use Rattle.iface.specs.declared.addr.Added.{Added}
+use Rattle.iface.specs.declared.addr.IfaceAddr.{IfaceAddr}
+use Rattle.iface.specs.declared.addr.IfaceAddrs.{IfaceAddrs}
+use Rattle.iface.specs.declared.route.AddedRoute.{AddedRoute}
+use Rattle.iface.specs.declared.route.Route.{Route}
+use Rattle.iface.specs.declared.route.Routes.{Routes}
+use Rattle.learned.specs.DiscoveryRules.{ifaceCheck, changeBy, restarted as restartedOf, turnedOn, begun, withDiscovery, fresh}
+use Rattle.learned.specs.ExpiryRules.{isValid, syncDue, leaveExpired}
+use Rattle.learned.specs.LearnedRules.{prefixesOf, routersOf, processPrefix}
+use Rattle.learned.specs.declared.Changed.{Changed}
+use Rattle.learned.specs.declared.Outcome.the-variants.{Done}
 use Rattle.learned.specs.declared.Prefix.{Prefix}
 use Rattle.learned.specs.declared.Router.{Router}
 use Rattle.learned.specs.declared.Slaac.{Slaac}
-use Rattle.learned.specs.LearnedRules.{prefixesOf, routersOf, processPrefix, processRouter, prefixOf}
-use Rattle.learned.specs.DiscoveryRules.{ifaceCheck, changeBy, restarted as restartedOf, turnedOn, begun, withDiscovery, fresh}
-use Rattle.learned.specs.ExpiryRules.{isValid, syncDue, leaveExpired}
+use Rattle.ndisc.specs.Rfc4861Messages.{routerAdvertAt}
+use Rattle.ndisc.specs.declared.ndiscoption.PrefixInformation.{PrefixInformation}
+use Rattle.neighbor.specs.declared.NeighborCache.{NeighborCache}
+use Rattle.pending.specs.declared.PendingQueue.{PendingQueue}
 use Rattle.slaac.specs.Answers.{callCheck}
+use Rattle.slaac.specs.OffRules.{offNow, offBy}
+use Rattle.slaac.specs.PollRules.{syncTurn, turnOf, senderIn, pollOn, pollBy}
 use Rattle.slaac.specs.SlaacRules.{messageCheck, optionsIn, prefixOptions, step2, learned, advertBy, callBy}
 use Rattle.slaac.specs.SyncRules.{preferredOf, syncFormed, syncPrefix, syncRouter, syncAddrs, syncRoutes}
-use Rattle.slaac.specs.PollRules.{syncTurn, afterTurn, turnOf, senderIn, pollOn, pollBy}
-use Rattle.slaac.specs.declared.Turn.{Turn}
+use Rattle.slaac.specs.declared.AdvertAnswer.the-variants.{Off}
+use Rattle.slaac.specs.declared.Advertised.{Advertised}
+use Rattle.slaac.specs.declared.PollAnswer.the-variants.{Off as PollOff}
+use Rattle.slaac.specs.declared.PollAnswer.{PollAnswer}
 use Rattle.slaac.specs.declared.Polled.{Polled}
 use Rattle.slaac.specs.declared.PolledAt.{PolledAt}
+use Rattle.slaac.specs.declared.Turn.{Turn}
 use Rattle.slaac.specs.declared.TurnedOff.{TurnedOff}
-use Rattle.slaac.specs.OffRules.{offNow, offBy}
-use Rattle.pending.specs.declared.PendingQueue.{PendingQueue}
-use Rattle.slaac.specs.declared.Advertised.{Advertised}
-use Rattle.slaac.specs.declared.AdvertAnswer.the-variants.{Off}
-use Rattle.slaac.specs.declared.PollAnswer.the-variants.{Off as PollOff}
-use Rattle.learned.specs.declared.Changed.{Changed}
-use Rattle.learned.specs.declared.Outcome.the-variants.{Done}
-use Rattle.iface.specs.declared.addr.Added.{Added}
-use Rattle.iface.specs.declared.route.AddedRoute.{AddedRoute}
-use Rattle.slaac.specs.declared.PollAnswer.{PollAnswer}
-use Rattle.claims.specs.Early.{All, Host, HostCall, advertise, poll, restart, turnOn, addAddr, addRoute, turnOff, pollElsewhere, offElsewhere, Step, advertised, polled, polled-at, restarted, turned-on, addr-added, route-added, turned-off, polled-elsewhere, polled-at-elsewhere, off-elsewhere, Run, none, one-more, Before, stands, LastsTo, Spares, Harmless, Silent, routeStands, RouterLastsTo, RouterSpares, HarmlessTo, SilentTo, NotEarly}
-use Rattle.claims.proofs.Standing.{entries-with, put-stands, drop-stands, add-stands, process-lasts, leave-lasts, router-apart, put-route-stands, drop-route-stands, clear-route-stands, add-route-stands, process-router, leave-router, prefix-apart, expired-other, expired-router}
+use Rattle.table.specs.Table.{foldOver}
+use Rattle.time.specs.TimeRules.{secondsOf}
+use Rattle.time.specs.declared.Clock.{Clock}
+use Rattle.time.specs.declared.Instant.{Instant}
+use Rattle.wire.specs.Rfc2464.{formedOf}
+use Rattle.wire.specs.declared.error.Check.the-variants.{Fine, Refused as Fails}
+use Rattle.wire.specs.declared.error.Check.{Check}
+use Rattle.wire.specs.declared.ethernet.HardwareAddress.{HardwareAddress}
+use Rattle.wire.specs.declared.ipv6.Formed.the-variants.{Nothing, Addr}
+use Rattle.wire.specs.declared.ipv6.Formed.{Formed}
+use Rattle.wire.specs.declared.ipv6.Ipv6Addr.{Ipv6Addr}
+use Rattle.wire.specs.declared.ipv6.Ipv6Cidr.{Ipv6Cidr}
 
 -- Addresses
 

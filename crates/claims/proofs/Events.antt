@@ -1,21 +1,21 @@
 -- The probe events from a place until none are the walk over what stands from that place on.
 use Prim.Native.Nat.{ℕ, zero, suc, _≤_}
-use native.Mathlib.Omega.{arith}
-use mathlib.Core.Path.{_≡_, refl, ap, _∙_}
-use mathlib.Core.Bool.{Bool, true, false, cond}
-use mathlib.Core.List.{[], _∷_, _++_}
 use lib.ListN.{length}
 use lib.Seq.{append-snoc, drop-length, drop-append-seam, set-append-seam}
-use Rattle.table.specs.Table.{firstFrom, swapRemove, lastFirst}
-use Rattle.time.specs.declared.Instant.{Instant}
-use Rattle.neighbor.specs.declared.Entry.{Entry}
-use Rattle.neighbor.specs.NeighborRules.{Table}
-use Rattle.sweep.specs.declared.ProbeEvent.{ProbeEvent}
-use Rattle.sweep.specs.declared.ProbeEvent.the-variants.{Retransmit, Failed}
-use Rattle.sweep.specs.SweepRules.{due, spent, probed, nothing as no-probe, happens, probe, Events, andThen, eventsFrom}
-use Rattle.claims.specs.Calls.{at}
+use mathlib.Core.Bool.{Bool, true, false, cond}
+use mathlib.Core.List.{[], _∷_, _++_}
+use mathlib.Core.Path.{_≡_, refl, ap, _∙_}
+use native.Mathlib.Omega.{arith}
 use Rattle.claims.proofs.Base.{append-nil, length-lastFirst}
 use Rattle.claims.proofs.Walk.{keep, walk}
+use Rattle.claims.specs.Calls.{at}
+use Rattle.neighbor.specs.NeighborRules.{Table}
+use Rattle.neighbor.specs.declared.Entry.{Entry}
+use Rattle.sweep.specs.SweepRules.{due, spent, probed, nothing as no-probe, happens, probe, Events, andThen, eventsFrom}
+use Rattle.sweep.specs.declared.ProbeEvent.the-variants.{Retransmit, Failed}
+use Rattle.sweep.specs.declared.ProbeEvent.{ProbeEvent}
+use Rattle.table.specs.Table.{firstFrom, swapRemove, lastFirst}
+use Rattle.time.specs.declared.Instant.{Instant}
 
 first-none : (p : Entry → Bool) (a : Table) → firstFrom p (length a) a ≡ length a
 first-none p [] = refl

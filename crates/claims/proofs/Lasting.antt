@@ -1,18 +1,18 @@
 -- An address and a route that last to the millisecond, computed. Assumes nothing.
-use native.Mathlib.Omega.{arith}
 use mathlib.Core.Path.{refl}
-use Rattle.wire.specs.Rfc2464.{formedOf}
-use Rattle.ndisc.specs.OptionWalk.{walked, optionsOf}
-use Rattle.ndisc.specs.Rfc4443Checksum.{checksumOf}
+use native.Mathlib.Omega.{arith}
+use Rattle.claims.specs.Lasting.{Lasting}
 use Rattle.iface.specs.AddressRules.{putAddr, dropAddr, firstLocal}
 use Rattle.iface.specs.RouteRules.{putRoute, dropRoute}
-use Rattle.learned.specs.LearnedRules.{addPrefix, expirePrefix, processPrefix, addRouter, expireRouter, processRouter}
 use Rattle.learned.specs.DiscoveryRules.{due as turnDue, sent, solicitation}
 use Rattle.learned.specs.ExpiryRules.{syncDue, leaveExpired}
+use Rattle.learned.specs.LearnedRules.{addPrefix, expirePrefix, processPrefix, addRouter, expireRouter, processRouter}
+use Rattle.ndisc.specs.OptionWalk.{walked, optionsOf}
+use Rattle.ndisc.specs.Rfc4443Checksum.{checksumOf}
+use Rattle.slaac.specs.PollRules.{turnOf, bufferOf, syncTurn, pollOn}
 use Rattle.slaac.specs.SlaacRules.{step2, lastSource}
 use Rattle.slaac.specs.SyncRules.{syncPrefix, syncRouter, syncAddrs, syncRoutes}
-use Rattle.slaac.specs.PollRules.{turnOf, bufferOf, syncTurn, pollOn}
-use Rattle.claims.specs.Lasting.{Lasting}
+use Rattle.wire.specs.Rfc2464.{formedOf}
 
 pub lasting : Lasting
 unfolding formedOf walked optionsOf checksumOf putAddr dropAddr firstLocal putRoute dropRoute addPrefix expirePrefix processPrefix addRouter expireRouter processRouter turnDue sent solicitation syncDue leaveExpired step2 lastSource syncPrefix syncRouter syncAddrs syncRoutes turnOf bufferOf syncTurn pollOn

@@ -1,28 +1,27 @@
 -- The places of the cache, in words. Assumes nothing.
-use Prim.Native.Nat.{ℕ, suc, _≤_, _<_}
-use native.Mathlib.Omega.{arith}
-use mathlib.Core.Path.{_≡_, refl, sym, ap, _∙_, subst}
-use mathlib.Core.Logic.{_⊎_, inl, inr}
-use mathlib.Core.Bool.{Bool, true, false, cond, true≢false, _&&_}
-use mathlib.Core.List.{List, [], _∷_}
+use Prim.Native.Nat.{ℕ, suc}
+use borrow.Author.Tests.{eqb-true, eq-eqb, leb-true, le-leb}
+use lib.Dec.{eqb}
 use lib.ListN.{length, getD, set, drop}
 use lib.Seq.{drop-cons, drop-length}
-use lib.Dec.{eqb, leb}
-use borrow.Author.Tests.{eqb-true, eq-eqb, leb-true, le-leb}
-use Rattle.table.specs.First.{FirstAt, NoneFrom, FirstFromLaw}
-use Rattle.table.specs.Table.{swapRemove, firstFrom}
-use Rattle.table.proofs.First.{first-from-law}
-use Rattle.time.specs.declared.Instant.{Instant}
-use Rattle.neighbor.specs.declared.State.{State}
-use Rattle.neighbor.specs.declared.State.the-variants.{Started, Incomplete, Reachable, Stale}
-use Rattle.neighbor.specs.declared.Entry.{Entry}
-use Rattle.neighbor.specs.NeighborRules.{Table, onIface}
-use Rattle.neighbor.specs.CacheCalls.{blank}
+use mathlib.Core.Bool.{true, false, true≢false}
+use mathlib.Core.List.{_∷_}
+use mathlib.Core.Logic.{_⊎_, inl, inr}
+use mathlib.Core.Path.{_≡_, refl, sym, ap, _∙_}
+use Rattle.claims.specs.Places.{DueNow, NoneLeft, Places}
 use Rattle.neighbor.proofs.Eviction.{eviction-law, find-law}
 use Rattle.neighbor.proofs.Keys.{and-true}
-use Rattle.sweep.specs.declared.ProbeEvent.the-variants.{Retransmit, Failed}
+use Rattle.neighbor.specs.CacheCalls.{blank}
+use Rattle.neighbor.specs.NeighborRules.{Table, onIface}
+use Rattle.neighbor.specs.declared.Entry.{Entry}
+use Rattle.neighbor.specs.declared.State.the-variants.{Started, Incomplete, Reachable, Stale}
+use Rattle.neighbor.specs.declared.State.{State}
 use Rattle.sweep.specs.SweepRules.{dueState, due, spentState, spent, probed, nothing, happens, probeAt, probe}
-use Rattle.claims.specs.Places.{DueNow, NoneLeft, Places}
+use Rattle.sweep.specs.declared.ProbeEvent.the-variants.{Retransmit, Failed}
+use Rattle.table.proofs.First.{first-from-law}
+use Rattle.table.specs.First.{FirstAt, NoneFrom}
+use Rattle.table.specs.Table.{swapRemove, firstFrom}
+use Rattle.time.specs.declared.Instant.{Instant}
 
 -- The tests
 

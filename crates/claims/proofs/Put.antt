@@ -1,21 +1,21 @@
 -- What a put of another key does to a key, and the lengths that puts and removals leave. Assumes nothing.
 use Prim.Native.Nat.{ℕ, suc, _≤_, _<_}
-use native.Mathlib.Omega.{arith}
-use mathlib.Core.Path.{_≡_, refl}
-use mathlib.Core.Logic.{_⊎_, inl, inr}
+use borrow.Author.Tests.{ltb-true}
+use lib.Dec.{ltb}
+use lib.ListN.{length, length-append, set, length-set}
 use mathlib.Core.Bool.{Bool, true, false, cond, true≢false}
 use mathlib.Core.List.{[], _∷_, _++_}
-use lib.ListN.{length, length-append, set, length-set}
-use lib.Dec.{ltb}
-use borrow.Author.Tests.{ltb-true}
-use Rattle.neighbor.specs.declared.State.{State}
-use Rattle.neighbor.specs.declared.State.the-variants.{Started, Incomplete, Reachable, Stale}
-use Rattle.neighbor.specs.NeighborRules.{Table, Key, sameKey, entry, find, kind, victim, insertState, removeKey, entriesOf}
-use Rattle.neighbor.specs.Eviction.{stateAt}
-use Rattle.neighbor.proofs.OneKey.{Freed, put-other}
-use Rattle.neighbor.proofs.Eviction.{victim-evicted}
-use Rattle.claims.specs.Watch.{isFilled, anyFilled}
+use mathlib.Core.Logic.{_⊎_, inl, inr}
+use mathlib.Core.Path.{_≡_, refl}
+use native.Mathlib.Omega.{arith}
 use Rattle.claims.proofs.Base.{swap-length}
+use Rattle.claims.specs.Watch.{isFilled, anyFilled}
+use Rattle.neighbor.proofs.Eviction.{victim-evicted}
+use Rattle.neighbor.proofs.OneKey.{Freed, put-other}
+use Rattle.neighbor.specs.Eviction.{stateAt}
+use Rattle.neighbor.specs.NeighborRules.{Table, Key, sameKey, entry, find, kind, victim, insertState, removeKey, entriesOf}
+use Rattle.neighbor.specs.declared.State.the-variants.{Started, Incomplete, Reachable, Stale}
+use Rattle.neighbor.specs.declared.State.{State}
 
 -- stale and reachable are the first two kinds
 unfilled-kind : (s : State) → isFilled s ≡ false → 2 ≤ kind s

@@ -8,7 +8,6 @@ use mathlib.Core.Bool.{Bool, true, false, cond, _&&_, true≢false}
 use mathlib.Core.List.{List, [], _∷_, _++_}
 use mathlib.Core.Path.{_≡_, refl, sym, ap, _∙_, subst}
 use native.Mathlib.Omega.{arith}
-use Rattle.neighbor.proofs.Keys.{and-true}
 use Rattle.claims.specs.Early.{All, stands, LastsTo, Spares, routeStands, RouterLastsTo, RouterSpares}
 use Rattle.iface.specs.AddressRules.{isAddr, isFromSlaac, slaacAddr, refreshed, gone, putAddr, dropAddr, anywhere}
 use Rattle.iface.specs.RouteRules.{isSlaac, isRoute, isInstalled, isLearned, extended, noneLeft, putRoute, dropRoute, clearRoutes}
@@ -21,6 +20,7 @@ use Rattle.learned.specs.declared.Prefix.{Prefix}
 use Rattle.learned.specs.declared.Router.{Router}
 use Rattle.learned.specs.declared.Slaac.{Slaac}
 use Rattle.ndisc.specs.declared.ndiscoption.PrefixInformation.{PrefixInformation}
+use Rattle.neighbor.proofs.Keys.{and-true}
 use Rattle.table.specs.Table.{filled, kept, atFirst, anyOf}
 use Rattle.time.specs.TimeRules.{addOf}
 use Rattle.time.specs.declared.Duration.{Duration}

@@ -1,22 +1,22 @@
 -- What a sweep does to one key, and what it reports of it.
 use Prim.Native.Nat.{ℕ, suc, _+_, _^_, _≤_, min}
-use native.Mathlib.Omega.{arith}
-use mathlib.Core.Path.{_≡_, refl, ap, _∙_}
+use borrow.Author.Tests.{lt-leb}
+use lib.Dec.{leb, eqb}
+use lib.ListN.{length, length-map}
 use mathlib.Core.Bool.{Bool, true, false, cond, _&&_}
 use mathlib.Core.List.{List, [], _∷_, map}
-use lib.ListN.{length, length-map}
-use lib.Dec.{leb, eqb}
-use borrow.Author.Tests.{lt-leb}
-use Rattle.time.specs.declared.Instant.{Instant}
-use Rattle.wire.specs.declared.ethernet.HardwareAddress.{HardwareAddress}
-use Rattle.neighbor.specs.declared.State.{State}
-use Rattle.neighbor.specs.declared.State.the-variants.{Started, Incomplete, Reachable, Stale}
-use Rattle.neighbor.specs.NeighborRules.{Table, Key, isKey, entriesOf}
-use Rattle.sweep.specs.SweepRules.{expireState, expire, expireAll, dueState, spentState, probedState, Events, sweepTable}
-use Rattle.claims.specs.Watch.{later, reportsOf, dueAt, filled, gone, watchOf, watchSweep, told}
+use mathlib.Core.Path.{_≡_, refl, ap, _∙_}
+use native.Mathlib.Omega.{arith}
 use Rattle.claims.proofs.Base.{append-nil}
 use Rattle.claims.proofs.Events.{events-walk}
 use Rattle.claims.proofs.Walk.{walk, visitState, visitStates, tellState, tellStates, walk-entries, walk-tells, walk-length}
+use Rattle.claims.specs.Watch.{later, reportsOf, dueAt, filled, gone, watchOf, watchSweep, told}
+use Rattle.neighbor.specs.NeighborRules.{Table, Key, isKey, entriesOf}
+use Rattle.neighbor.specs.declared.State.the-variants.{Started, Incomplete, Reachable, Stale}
+use Rattle.neighbor.specs.declared.State.{State}
+use Rattle.sweep.specs.SweepRules.{expireState, expire, expireAll, dueState, spentState, probedState, Events, sweepTable}
+use Rattle.time.specs.declared.Instant.{Instant}
+use Rattle.wire.specs.declared.ethernet.HardwareAddress.{HardwareAddress}
 
 sweep-walk : (i : ℕ) (now : Instant) (t : Table) → sweepTable i now t ≡ walk (length t) i now (map (expire now) t)
 unfolding sweepTable expireAll

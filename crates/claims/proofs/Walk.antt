@@ -1,23 +1,23 @@
 -- The probe events of a sweep as one walk over the entries, and what it does to one key.
 use Prim.Native.Nat.{ℕ, zero, suc, _≤_}
-use native.Mathlib.Omega.{arith}
-use mathlib.Core.Path.{_≡_, refl, ap, _∙_}
+use borrow.Author.Tests.{eqb-true}
+use lib.Dec.{eqb}
+use lib.ListN.{length}
 use mathlib.Core.Bool.{Bool, true, false, cond, _&&_}
 use mathlib.Core.List.{List, [], _∷_, _++_}
-use lib.ListN.{length}
-use lib.Dec.{eqb}
-use borrow.Author.Tests.{eqb-true}
+use mathlib.Core.Path.{_≡_, refl, ap, _∙_}
+use native.Mathlib.Omega.{arith}
+use Rattle.claims.proofs.Base.{length-lastFirst}
+use Rattle.claims.specs.Watch.{Report, retransmission, failure, reportsOf}
+use Rattle.neighbor.proofs.Keys.{and-true, sameKey-true, entries-lastFirst, tail-few}
+use Rattle.neighbor.specs.CacheCalls.{key}
+use Rattle.neighbor.specs.NeighborRules.{Table, Key, sameKey, keyOf, isKey, onIface, entriesOf}
+use Rattle.neighbor.specs.declared.Entry.{Entry}
+use Rattle.neighbor.specs.declared.State.{State}
+use Rattle.sweep.specs.SweepRules.{dueState, due, spentState, spent, probedState, probed, Events, andThen}
+use Rattle.sweep.specs.declared.ProbeEvent.the-variants.{Retransmit, Failed}
 use Rattle.table.specs.Table.{lastFirst}
 use Rattle.time.specs.declared.Instant.{Instant}
-use Rattle.neighbor.specs.declared.State.{State}
-use Rattle.neighbor.specs.declared.Entry.{Entry}
-use Rattle.neighbor.specs.NeighborRules.{Table, Key, sameKey, keyOf, isKey, onIface, entriesOf}
-use Rattle.neighbor.specs.CacheCalls.{key}
-use Rattle.neighbor.proofs.Keys.{and-true, sameKey-true, entries-lastFirst, tail-few}
-use Rattle.sweep.specs.declared.ProbeEvent.the-variants.{Retransmit, Failed}
-use Rattle.sweep.specs.SweepRules.{dueState, due, spentState, spent, probedState, probed, Events, andThen}
-use Rattle.claims.specs.Watch.{Report, retransmission, failure, reportsOf}
-use Rattle.claims.proofs.Base.{length-lastFirst}
 
 abbrev pub keep : Entry → Events → Events
 keep e r = record { events = r .events; table = e ∷ r .table }

@@ -39,7 +39,8 @@ use Rattle.sweep.specs.declared.ProbeEvent.{ProbeEvent}
 use Rattle.sweep.specs.declared.EventSlot.{EventSlot}
 use Rattle.sweep.specs.declared.Events.{Events}
 use Rattle.sweep.specs.declared.Swept.{Swept}
-use Rattle.sweep.specs.SweepCalls.{SweptTo}
+use Rattle.sweep.specs.declared.Reported.{Reported}
+use Rattle.sweep.specs.SweepCalls.{SweptTo, ReportedTo}
 use Rattle.claims.specs.Calls.{Call, lookup, start, fill, insert, get, at, remove, clear, sweep, advertise, turnOff, Heard, silence, address, next, Answer, refused, done, looked, got, swept, apart, answer, answers, tableAfter}
 use Rattle.claims.specs.Watch.{gone, reportsAll, toldRun}
 
@@ -93,7 +94,7 @@ wentBy Fine on any = cond on any false
 abbrev pub wentIn : Slaac → IfaceAddrs → ℕ → Bool
 wentIn s t i = wentBy (ifaceCheck i) (s .on) (clearAddrs t .any)
 
--- one call on a cache that its function's promise allows, with its answer and the cache after it
+-- one call on a cache that its function's promise allows, with its answer and the cache after it; sweeps with the clock lent, and by value
 pub data Step : NeighborCache → Call → Answer → NeighborCache → Type 0 where
   looks-up : (c : NeighborCache) (i : ℕ) (a : Ipv6Addr) (r : Found) → LookedUp c i a r → Step c (lookup (key i a)) (ofLookup r) c
   starts : (c : NeighborCache) (i : ℕ) (a : Ipv6Addr) (r : Changed) → startTo c i a r → Step c (start (key i a)) (ofOutcome (r .outcome)) (r .cache)
@@ -109,7 +110,9 @@ pub data Step : NeighborCache → Call → Answer → NeighborCache → Type 0 w
       → Step c (advertise (key i source) now (heardIn s i source msg now)) apart (r .cache)
   turns-off : (c : NeighborCache) (s : Slaac) (t : IfaceAddrs) (r : Routes) (q : PendingQueue) (i : ℕ) (x : TurnedOff) → TurnedOffTo s t r c q i x
       → Step c (turnOff i (wentIn s t i)) apart (x .cache)
-  sweeps : (c : NeighborCache) (k : Clock) (i : ℕ) (r : Swept) → SweptTo c k i r → Step c (sweep i (k .now)) (ofSweep i (r .events) (r .outcome)) (r .cache)
+  sweeps : (c : NeighborCache) (k k' : Clock) (i : ℕ) (r : Reported) → ReportedTo c k i r k'
+      → Step c (sweep i (k .now)) (ofSweep i (r .events) (r .outcome)) (r .cache)
+  sweeps-at : (c : NeighborCache) (k : Clock) (i : ℕ) (r : Swept) → SweptTo c k i r → Step c (sweep i (k .now)) (ofSweep i (r .events) (r .outcome)) (r .cache)
 
 -- calls one after the other
 pub data Run : NeighborCache → List Call → List Answer → NeighborCache → Type 0 where

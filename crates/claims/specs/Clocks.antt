@@ -7,7 +7,8 @@ use Rattle.time.specs.declared.Clock.{Clock}
 use Rattle.time.specs.Forward.{Forward}
 use Rattle.neighbor.specs.declared.NeighborCache.{NeighborCache}
 use Rattle.sweep.specs.declared.Swept.{Swept}
-use Rattle.sweep.specs.SweepCalls.{SweptTo}
+use Rattle.sweep.specs.declared.Reported.{Reported}
+use Rattle.sweep.specs.SweepCalls.{SweptTo, ReportedTo}
 use Rattle.wire.specs.declared.ethernet.HardwareAddress.{HardwareAddress}
 use Rattle.iface.specs.declared.addr.IfaceAddrs.{IfaceAddrs}
 use Rattle.iface.specs.declared.route.Routes.{Routes}
@@ -17,8 +18,9 @@ use Rattle.slaac.specs.declared.PolledAt.{PolledAt}
 use Rattle.slaac.specs.PollRules.{PolledTo, PolledBy}
 
 pub record Clocks : Type 0 where
-  -- a sweep, refused ones too
-  pub sweep : (c : NeighborCache) (k : Clock) (i : ℕ) (r : Swept) → SweptTo c k i r → Forward k (r .clock)
+  -- a sweep, refused ones too, with the clock by value and with the clock lent
+  pub sweep-at : (c : NeighborCache) (k : Clock) (i : ℕ) (r : Swept) → SweptTo c k i r → Forward k (r .clock)
+  pub sweep : (c : NeighborCache) (k k' : Clock) (i : ℕ) (r : Reported) → ReportedTo c k i r k' → Forward k k'
   -- a poll, refused ones too, with the clock by value and with the clock lent
   pub poll-at : (s : Slaac) (t : IfaceAddrs) (r : Routes) (i : ℕ) (up : Bool) (hw : HardwareAddress) (buf : List ℕ) (k : Clock) (p : PolledAt) (buf' : List ℕ)
       → PolledTo s t r i up hw buf k p buf' → Forward k (p .clock)
