@@ -1,3 +1,4 @@
+-- `sweep::expire_state` meets its contract: by cases on the state, and for a reachable one on the test. Assumes nothing.
 use borrow.Author.Needs.{needs}
 use Rattle.sweep.proofs.ExpiryLaws.{starts, expires, lasts}
 use Rattle.sweep.proofs.expire_state.Statement.{statement}
