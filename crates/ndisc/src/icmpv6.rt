@@ -1,6 +1,5 @@
 // ICMPv6 (RFC 4443): the message types that are used here, and the checksum.
 ghost use mathlib.Core.Path.{_≡_};
-ghost use Rattle.wire.specs.Numbers.{bytes32};
 ghost use Rattle.wire.specs.Rfc4291.{addressBytes};
 ghost use Rattle.ndisc.specs.Rfc4443Checksum.{words, onesAdd, onesSum, pseudoHeader, checksumOf};
 use wire::byteorder;

@@ -1,7 +1,7 @@
 // Neighbour-discovery options (RFC 4861, 4.6): checked, read, written at a place of a message, and walked.
 // `s` is always the part of the message that begins at the option. A length is in units of 8 bytes.
 ghost use mathlib.Core.Path.{_≡_};
-ghost use Prim.Native.Nat.{_+_, _*_, _<_, _≤_};
+ghost use Prim.Native.Nat.{_+_, _<_, _≤_};
 ghost use lib.ListN.{length};
 ghost use lib.Seq.{sets};
 ghost use Rattle.wire.specs.Rfc2464.{hardwareAt};
