@@ -1,4 +1,4 @@
--- The probe events from a place until none are the walk over what stands from that place on.
+-- The probe events from a place until none are the walk over what stands from that place on. Assumes nothing.
 use Prim.Native.Nat.{ℕ, zero, suc, _≤_}
 use lib.ListN.{length}
 use lib.Seq.{append-snoc, drop-length, drop-append-seam, set-append-seam}

@@ -1,4 +1,4 @@
--- What a sweep does to one key, and what it reports of it.
+-- What a sweep does to one key, and what it reports of it. Assumes nothing.
 use Prim.Native.Nat.{ℕ, suc, _+_, _^_, _≤_, min}
 use borrow.Author.Tests.{lt-leb}
 use lib.Dec.{leb, eqb}

@@ -1,4 +1,4 @@
--- The probe events of a sweep as one walk over the entries, and what it does to one key.
+-- The probe events of a sweep as one walk over the entries, and what it does to one key. Assumes nothing.
 use Prim.Native.Nat.{ℕ, zero, suc, _≤_}
 use borrow.Author.Tests.{eqb-true}
 use lib.Dec.{eqb}

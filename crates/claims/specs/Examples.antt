@@ -1,10 +1,9 @@
 -- Document 01, "Examples on both sides": one claim, a field for each, of the specifications that the code is proved against. Assumes nothing.
 use Prim.Native.Nat.{ℕ}
 use mathlib.Core.Path.{_≡_}
-use mathlib.Core.Bool.{true, false}
+use mathlib.Core.Bool.{true}
 use mathlib.Core.List.{List, [], _∷_, _++_}
 use lib.ListN.{replicate}
-use Rattle.time.specs.declared.Instant.{Instant}
 use Rattle.time.specs.ClockRules.{idle}
 use Rattle.wire.specs.declared.ipv6.Ipv6Addr.{Ipv6Addr}
 use Rattle.wire.specs.declared.ipv6.Ipv6Cidr.{Ipv6Cidr}
@@ -30,7 +29,7 @@ use Rattle.slaac.specs.Answers.{advertNumber, callCheck}
 use Rattle.slaac.specs.SlaacRules.{callBy}
 use Rattle.slaac.specs.PollRules.{pollBy, pollBuffer}
 use Rattle.sweep.specs.declared.ProbeEvent.the-variants.{Retransmit, Failed}
-use Rattle.claims.specs.Calls.{Call, start, sweep, Answer, done, swept, answers}
+use Rattle.claims.specs.Calls.{Call, start, sweep, done, swept, answers}
 use Rattle.claims.specs.Traces.{ms, neighbour}
 
 -- The values of document 01's event file

@@ -1,6 +1,6 @@
 -- Document 01's words for a place in the cache, "the first kind present", "the first entry there or later that ..", of the scans that
 -- compute it. Assumes nothing.
-use Prim.Native.Nat.{ℕ, suc, _≤_, _<_}
+use Prim.Native.Nat.{ℕ, suc, _≤_}
 use mathlib.Core.Path.{_≡_}
 use mathlib.Core.Bool.{true, false}
 use lib.ListN.{length, getD, set}
