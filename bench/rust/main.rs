@@ -1,0 +1,3 @@
+fn main() {
+    xarxa::bench::main()
+}
