@@ -333,29 +333,29 @@ impl Slaac {
     fn add_prefix(self, prefix: Prefix) -> Slaac
         ensures { λ r. ⌜ r ≡ addPrefix self prefix ⌝ }
     {
-        let k = count_of(self.prefix_count, 4);
+        let len = count_of(self.prefix_count, 4);
         let cidr = prefix.cidr;
         let mut i = 0;
-        while i < k {
+        while i < len {
             let e = self.prefixes[i];
             let c = e.cidr;
             if c.same(cidr) {
                 let mut s = self;
                 s.prefixes[i] = prefix;
-                s.prefix_count = k;
+                s.prefix_count = len;
                 s.sync_required = true;
                 return s;
             }
             i += 1;
         }
         let mut s = self;
-        if k < 4 {
-            s.prefixes[k] = prefix;
-            s.prefix_count = k + 1;
+        if len < 4 {
+            s.prefixes[len] = prefix;
+            s.prefix_count = len + 1;
             s.sync_required = true;
             return s;
         }
-        s.prefix_count = k;
+        s.prefix_count = len;
         s
     }
 

@@ -27,13 +27,12 @@ use Rattle.neighbor.specs.declared.NeighborCache.{NeighborCache}
 use Rattle.neighbor.specs.declared.State.the-variants.{Reachable}
 use Rattle.slaac.proofs.PollLaws.{on-yes, on-no}
 use Rattle.slaac.specs.Answers.{advertNumber, callCheck, numberAround}
-use Rattle.slaac.specs.SlaacRules.{notLinkLocal, messageCheck, optionsIn, step2, step3, step4, counts, lastSource, taughtBy, filledBy, step5, advertised, learned, advertBy, callBy, AdvertisedTo}
+use Rattle.slaac.specs.SlaacRules.{notLinkLocal, messageCheck, optionsIn, step2, step3, step4, sourceOptions, lastIn, lastSource, taughtBy, filledBy, step5, advertised, learned, advertBy, callBy, AdvertisedTo}
 use Rattle.slaac.specs.declared.AdvertAnswer.the-variants.{Refused, Off, Done}
 use Rattle.slaac.specs.declared.Advertised.{Advertised}
 use Rattle.slaac.specs.declared.LinkLayerAddr.the-variants.{Nothing, Is}
 use Rattle.slaac.specs.declared.LinkLayerAddr.{LinkLayerAddr}
 use Rattle.slaac.specs.declared.Taught.{Taught}
-use Rattle.table.specs.Table.{foldOver}
 use Rattle.time.specs.TimeRules.{addOf, secondsOf}
 use Rattle.time.specs.declared.Duration.{Duration}
 use Rattle.time.specs.declared.Instant.{Instant}
@@ -68,6 +67,26 @@ learn-one now s RedirectedHeader os = refl
 learn-one now s (Mtu n) os = refl
 learn-one now s (Unknown n) os = refl
 
+-- what one option leaves of the last source
+abbrev pub counts : LinkLayerAddr → NdiscOption → LinkLayerAddr
+counts l (SourceLinkLayerAddr h) = Is h
+counts l (TargetLinkLayerAddr h) = l
+counts l (Prefix p) = l
+counts l RedirectedHeader = l
+counts l (Mtu n) = l
+counts l (Unknown n) = l
+
+abbrev lastFrom : LinkLayerAddr → List NdiscOption → LinkLayerAddr
+lastFrom l os = lastIn l (sourceOptions os)
+
+count-one : (l : LinkLayerAddr) (o : NdiscOption) (os : List NdiscOption) → lastFrom l (o ∷ os) ≡ lastFrom (counts l o) os
+count-one l (SourceLinkLayerAddr h) os = refl
+count-one l (TargetLinkLayerAddr h) os = refl
+count-one l (Prefix p) os = refl
+count-one l RedirectedHeader os = refl
+count-one l (Mtu n) os = refl
+count-one l (Unknown n) os = refl
+
 no-more : (now : Instant) (s : Slaac) → s ≡ step2 now s []
 unfolding step2
 no-more now s = refl
@@ -75,7 +94,7 @@ no-more now s = refl
 -- the options from `at` on are still to be learned
 pub record Teaching (now : Instant) (msg : List ℕ) (s₀ s : Slaac) (l : LinkLayerAddr) (at : ℕ) : Type 0 where
   pub prefixes : step2 now s (optionsOf msg at) ≡ step2 now s₀ (optionsOf msg 16)
-  pub source : foldOver counts l (optionsOf msg at) ≡ lastSource (optionsOf msg 16)
+  pub source : lastFrom l (optionsOf msg at) ≡ lastSource (optionsOf msg 16)
 
 pub teaching : (now : Instant) (msg : List ℕ) (s : Slaac) → Teaching now msg s s Nothing 16
 unfolding lastSource
@@ -91,8 +110,8 @@ module _ {now : Instant} {msg : List ℕ} {s₀ s : Slaac} {l : LinkLayerAddr} {
             ap (λ (x : Slaac). step2 now x os) f
             ∙ (sym (learn-one now s o os) ∙ (ap (λ (z : List NdiscOption). step2 now s z) (sym e) ∙ inv .prefixes));
         source =
-            ap (λ (x : LinkLayerAddr). foldOver counts x os) g
-            ∙ (ap (λ (z : List NdiscOption). foldOver counts l z) (sym e) ∙ inv .source);
+            ap (λ (x : LinkLayerAddr). lastFrom x os) g
+            ∙ (sym (count-one l o os) ∙ (ap (λ (z : List NdiscOption). lastFrom l z) (sym e) ∙ inv .source));
       }
 
   -- the same, for an option that was taken apart
@@ -104,7 +123,7 @@ module _ {now : Instant} {msg : List ℕ} {s₀ s : Slaac} {l : LinkLayerAddr} {
   pub taught : optionsOf msg at ≡ [] → _≡_ {A = Taught} (record { slaac = s; lladdr = l }) (taughtBy now s₀ (optionsOf msg 16))
   taught e =
       let a : s ≡ step2 now s₀ (optionsOf msg 16) = no-more now s ∙ (ap (λ (z : List NdiscOption). step2 now s z) (sym e) ∙ inv .prefixes) in
-      let b : l ≡ lastSource (optionsOf msg 16) = ap (λ (z : List NdiscOption). foldOver counts l z) (sym e) ∙ inv .source in
+      let b : l ≡ lastSource (optionsOf msg 16) = ap (λ (z : List NdiscOption). lastFrom l z) (sym e) ∙ inv .source in
       λ i. record { slaac = a i; lladdr = b i }
 
 -- the pass ends where no option stands

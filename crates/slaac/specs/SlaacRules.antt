@@ -72,16 +72,21 @@ step4 s h = storeFlags s (h .managed) (h .«other_config»)
 
 -- Step 5: "If a type 1 option occurred, the last one counts"
 
-abbrev pub counts : LinkLayerAddr → NdiscOption → LinkLayerAddr
-counts l (SourceLinkLayerAddr h) = Is h
-counts l (TargetLinkLayerAddr h) = l
-counts l (Prefix p) = l
-counts l RedirectedHeader = l
-counts l (Mtu n) = l
-counts l (Unknown n) = l
+abbrev pub sourceOptions : List NdiscOption → List HardwareAddress
+sourceOptions [] = []
+sourceOptions (SourceLinkLayerAddr h ∷ os) = h ∷ sourceOptions os
+sourceOptions (TargetLinkLayerAddr h ∷ os) = sourceOptions os
+sourceOptions (Prefix p ∷ os) = sourceOptions os
+sourceOptions (RedirectedHeader ∷ os) = sourceOptions os
+sourceOptions (Mtu n ∷ os) = sourceOptions os
+sourceOptions (Unknown n ∷ os) = sourceOptions os
+
+abbrev pub lastIn : LinkLayerAddr → List HardwareAddress → LinkLayerAddr
+lastIn l [] = l
+lastIn l (h ∷ hs) = lastIn (Is h) hs
 
 unfoldable pub lastSource : List NdiscOption → LinkLayerAddr
-lastSource os = foldOver counts Nothing os
+lastSource os = lastIn Nothing (sourceOptions os)
 
 -- what the options teach, for both steps
 abbrev pub taughtBy : Instant → Slaac → List NdiscOption → Taught
