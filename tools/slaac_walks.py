@@ -1,6 +1,7 @@
 # The lent poll's walk. When its code changes, write proofs/poll/Proof.antt again, at the repository's root:
 #     python3 tools/walk.py crates/slaac tools/slaac_walks.py
 fields = {'PolledAt': [('clock', 'Clock'), ('polled', 'Polled')]}
+offsets = {'PolledAt': [0, 24]}
 enums = []
 homes = {'Slaac': 'learned', 'IfaceAddrs': 'iface::addr', 'Routes': 'iface::route', 'HardwareAddress': 'wire::ethernet', 'Clock': 'time'}
 taken = [('slaac', 'Slaac'), ('addrs', 'IfaceAddrs'), ('routes', 'Routes'), ('iface', 'u8'), ('up', 'bool'), ('hw', 'HardwareAddress'), ('buf', '&mut [u8]')]
