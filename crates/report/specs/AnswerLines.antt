@@ -28,6 +28,9 @@ refusedWord = 32 ∷ 114 ∷ 101 ∷ 102 ∷ 117 ∷ 115 ∷ 101 ∷ 100 ∷ 32 
 abbrev pub offWord : List ℕ
 offWord = 32 ∷ 111 ∷ 102 ∷ 102 ∷ 10 ∷ []
 
+abbrev pub badWord : List ℕ
+badWord = 98 ∷ 97 ∷ 100 ∷ 32 ∷ 108 ∷ 105 ∷ 110 ∷ 101 ∷ 32 ∷ []
+
 -- the end of a line
 abbrev pub newline : List ℕ
 newline = 10 ∷ []
@@ -45,6 +48,10 @@ refusedLine t n = ((decimal t ++ refusedWord) ++ decimal n) ++ newline
 
 unfoldable pub offLine : ℕ → List ℕ
 offLine t = decimal t ++ offWord
+
+-- "A bad line N .. ends the output with `bad line N` in place of the state."
+unfoldable pub badLine : ℕ → List ℕ
+badLine n = (badWord ++ decimal n) ++ newline
 
 abbrev pub probeLine : ℕ → ProbeEvent → List ℕ
 probeLine t (Retransmit a) = ((decimal t ++ retransmitWord) ++ hexed (addressBytes a)) ++ newline

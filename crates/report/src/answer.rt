@@ -1,6 +1,6 @@
 // The lines that are printed for an event. Each begins with the event's time.
 ghost use Rattle.text.specs.Place.{Put};
-ghost use Rattle.report.specs.AnswerLines.{solicitLine, refusedLine, offLine, probeLine, probeLines};
+ghost use Rattle.report.specs.AnswerLines.{solicitLine, refusedLine, offLine, badLine, probeLine, probeLines};
 use sweep::Events;
 use sweep::ProbeEvent;
 use table::count_of;
@@ -29,6 +29,15 @@ pub fn off(out: &mut [u8], at: usize, time: u64) -> usize
 {
     let a = print::number(out, at, time);
     print::word(out, a, b" off\n")
+}
+
+// The last line, where line n of the input is bad.
+pub fn bad_line(out: &mut [u8], at: usize, n: u64) -> usize
+    ensures { λ r. ⌜ Put (now (out .entry)) at (badLine n) r (now (out .exit)) ⌝ }
+{
+    let a = print::word(out, at, b"bad line ");
+    let b = print::number(out, a, n);
+    print::byte(out, b, b'\n')
 }
 
 fn probe(out: &mut [u8], at: usize, time: u64, event: ProbeEvent) -> usize

@@ -1,0 +1,6 @@
+// The event program: standard input to standard output.
+use input::sink::Sink;
+
+fn main() {
+    driver::run(0, Sink::Write(1));
+}
