@@ -3,7 +3,7 @@
 ghost use mathlib.Core.Path.{_≡_};
 ghost use mathlib.Core.Bool.{true, false};
 ghost use Prim.Native.Nat.{_<_};
-ghost use Rattle.script.specs.CourseRules.{rank, Falls};
+ghost use Rattle.script.specs.CourseRules.{rank};
 use input::reader::Line;
 use input::reader::Reader;
 use input::reader::next_line;
@@ -11,10 +11,9 @@ use input::sink::Sink;
 use input::sink::done;
 use input::sink::emit;
 use report::answer;
+use script::card::After;
 use script::card::Card;
-use script::course::After;
 use script::course::Want;
-use script::course::step;
 
 // What is printed is gathered up to here before it is written. A line prints at most 1,040 bytes, and the state 4,096.
 const GATHERED: usize = 57344;
@@ -124,11 +123,11 @@ fn step_at(
     out: &mut [u8],
     at: usize,
 ) -> After
-    ensures { λ r. ⌜ Falls want (r .want) ⌝ }
+    ensures { λ r. ⌜ (0 < rank want → rank (r .want) < rank want) ⌝ }
 {
     if from <= to {
         if to <= buf.len() {
-            return step(want, card, &buf[from..to], out, at);
+            return card.step(want, &buf[from..to], out, at);
         }
     }
     After {
@@ -174,7 +173,7 @@ fn take_line(
     at: usize,
     n: u64,
 ) -> Turn
-    ensures { λ t. ⌜ (t .going ≡ true → (0 < rank (t .want)) × Falls want (t .want)) ⌝ }
+    ensures { λ t. ⌜ (t .going ≡ true → (0 < rank (t .want)) × (0 < rank want → rank (t .want) < rank want)) ⌝ }
 {
     let s = step_at(want, card, buf, from, to, out, at);
     let w = s.want;
@@ -210,7 +209,7 @@ fn one_turn(
     reader: Reader,
     n: u64,
 ) -> Turn
-    ensures { λ t. ⌜ (t .going ≡ true → (0 < rank (t .want)) × Falls want (t .want)) ⌝ }
+    ensures { λ t. ⌜ (t .going ≡ true → (0 < rank (t .want)) × (0 < rank want → rank (t .want) < rank want)) ⌝ }
 {
     let line = next_line(fd, buf, reader);
     let Line::At(from, to, rest) = line else {

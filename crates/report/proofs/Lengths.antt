@@ -100,10 +100,9 @@ each-short line m w [] n h = record { is = omega arith }
 each-short line m w (x ∷ xs) zero h = absurd (omega arith)
 each-short line m w (x ∷ xs) (suc n) h = rw (mul-more m n) (then (w x) (each-short line m w xs n (omega arith)))
 
-pub probes-short : (t : ℕ) (v : Events) → length (v .slots) ≤ 16 → Short (probeLines t v) 1040
+pub probes-short : (t : ℕ) (v : Events) → length (take (v .len) (v .slots)) ≤ 16 → length (probeLines t v) ≤ 1040
 unfolding probeLines
-probes-short t v h =
-    each-short (slotLine t) 65 (λ e. probe-short t (e .event)) (take (v .len) (v .slots)) 16 (omega (arith, length-take (v .len) (v .slots)))
+probes-short t v h = each-short (slotLine t) 65 (λ e. probe-short t (e .event)) (take (v .len) (v .slots)) 16 h .is
 
 -- ---- lines of the state
 
@@ -177,15 +176,35 @@ section-short : {A : Type 0} (name : List ℕ) (line : A → List ℕ) (es : Lis
     → Short (section name line es) (31 + 96 * n)
 section-short name line es n h w k = then (heading-short name (length es) h) (each-short line 96 w es n k)
 
-pub state-short : (ps : List Prefix) (rs : List Router) (es : List IfaceAddr) (os : List Route) (ns : List Entry) → length ps ≤ 4 → length rs ≤ 2 → length es ≤ 8
-    → length os ≤ 8 → length ns ≤ 16 → Short (stateText ps rs es os ns) 4096
-unfolding stateText prefixesText routersText addressesText routesText neighborsText
+pub prefixes-short : (ps : List Prefix) → length ps ≤ 4 → length (prefixesText ps) ≤ 415
+unfolding prefixesText
+prefixes-short ps h = section-short prefixesWord prefixLine ps 4 (omega arith) prefix-short h .is
+
+pub routers-short : (rs : List Router) → length rs ≤ 2 → length (routersText rs) ≤ 223
+unfolding routersText
+routers-short rs h = section-short routersWord routerLine rs 2 (omega arith) router-short h .is
+
+pub addresses-short : (es : List IfaceAddr) → length es ≤ 8 → length (addressesText es) ≤ 799
+unfolding addressesText
+addresses-short es h = section-short addressesWord addrLine es 8 (omega arith) addr-short h .is
+
+pub routes-short : (es : List Route) → length es ≤ 8 → length (routesText es) ≤ 799
+unfolding routesText
+routes-short es h = section-short routesWord routeLine es 8 (omega arith) route-short h .is
+
+pub neighbors-short : (es : List Entry) → length es ≤ 16 → length (neighborsText es) ≤ 1567
+unfolding neighborsText
+neighbors-short es h = section-short neighborsWord neighborLine es 16 (omega arith) neighbor-short h .is
+
+-- the whole state, of sections that are as short
+pub state-short : (ps : List Prefix) (rs : List Router) (es : List IfaceAddr) (os : List Route) (ns : List Entry) → length (prefixesText ps) ≤ 415
+    → length (routersText rs) ≤ 223 → length (addressesText es) ≤ 799 → length (routesText os) ≤ 799 → length (neighborsText ns) ≤ 1567
+    → length (stateText ps rs es os ns) ≤ 4096
+unfolding stateText
 state-short ps rs es os ns hp hr he ho hn =
-    at-most 4096
-    (then
-    (then
-    (then
-    (then (section-short prefixesWord prefixLine ps 4 (omega arith) prefix-short hp) (section-short routersWord routerLine rs 2 (omega arith) router-short hr))
-    (section-short addressesWord addrLine es 8 (omega arith) addr-short he))
-    (section-short routesWord routeLine os 8 (omega arith) route-short ho))
-    (section-short neighborsWord neighborLine ns 16 (omega arith) neighbor-short hn)) (omega arith)
+    let s : Short (stateText ps rs es os ns) 3803 =
+    then {m = 2236} {n = 1567}
+    (then {m = 1437} {n = 799} (then {m = 638} {n = 799} (then {a = prefixesText ps} {b = routersText rs} {m = 415} {n = 223} (record { is = hp }) (record { is = hr })) (record { is = he })) (record { is = ho }))
+    (record { is = hn }) in
+    let n = s .is in
+    omega arith

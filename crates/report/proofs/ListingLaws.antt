@@ -70,3 +70,7 @@ pub listed-section : {A : Type 0} {size : ℕ} {line : A → List ℕ} {s : List
     → Put out at (headingLine name k) first out₁ → Listing size line [] s n k i out₁ first next out₂ → k ≤ i → Put out at (section name line (take n s)) next out₂
 listed-section {size = size} {line = line} {s = s} {n = n} {k = k} name p inv h =
     put-as (ap (λ (j : ℕ). headingLine name j ++ eachLine line (take n s)) (entries-count s n size k (inv .full) (inv .count))) (chain p (listed-all inv h))
+
+pub few : {A : Type 0} {size : ℕ} {line : A → List ℕ} {head : List ℕ} {s : List A} {n k i : ℕ} {out₀ : List ℕ} {at next : ℕ} {out : List ℕ}
+    → Listing size line head s n k i out₀ at next out → length (take n s) ≤ size
+few {s = s} {n = n} inv = let f = inv .full in omega (arith, length-take n s)

@@ -1,8 +1,9 @@
 -- Document 01: "each line printed for it" begins with the event's time: "`solicit` with the message, `retransmit` or `failed` with an address,
 -- `refused` with a number, `off` for an answer Off; otherwise nothing". Assumes nothing.
-use Prim.Native.Nat.{ℕ}
+use Prim.Native.Nat.{ℕ, _≤_}
 use mathlib.Core.List.{List, [], _∷_, _++_}
-use lib.ListN.{take}
+use lib.ListN.{length, take}
+use Rattle.text.specs.Place.{Put}
 use Rattle.text.specs.Decimal.{decimal}
 use Rattle.text.specs.Hex.{hexed}
 use Rattle.wire.specs.Rfc4291.{addressBytes}
@@ -11,6 +12,11 @@ use Rattle.sweep.specs.declared.ProbeEvent.{ProbeEvent}
 use Rattle.sweep.specs.declared.ProbeEvent.the-variants.{Retransmit, Failed}
 use Rattle.sweep.specs.declared.EventSlot.{EventSlot}
 use Rattle.sweep.specs.declared.Events.{Events}
+
+-- a text of at most `most` bytes was put at `at`, and r is the place after it
+pub record Printed (text : List ℕ) (most : ℕ) (out : List ℕ) (at r : ℕ) (out' : List ℕ) : Type 0 where
+  pub put : Put out at text r out'
+  pub short : length text ≤ most
 
 -- the words, in ASCII, with the spaces around them
 abbrev pub solicitWord : List ℕ

@@ -1,6 +1,6 @@
 // The lines that are printed for an event. Each begins with the event's time.
 ghost use Rattle.text.specs.Place.{Put};
-ghost use Rattle.report.specs.AnswerLines.{solicitLine, refusedLine, offLine, badLine, probeLine, probeLines};
+ghost use Rattle.report.specs.AnswerLines.{solicitLine, refusedLine, offLine, badLine, probeLine, probeLines, Printed};
 use sweep::Events;
 use sweep::ProbeEvent;
 use table::count_of;
@@ -60,7 +60,7 @@ fn probe(out: &mut [u8], at: usize, time: u64, event: ProbeEvent) -> usize
 
 // The events of a sweep, in order.
 pub fn probes(out: &mut [u8], at: usize, time: u64, events: Events) -> usize
-    ensures { λ r. ⌜ Put (now (out .entry)) at (probeLines time events) r (now (out .exit)) ⌝ }
+    ensures { λ r. ⌜ Printed (probeLines time events) 1040 (now (out .entry)) at r (now (out .exit)) ⌝ }
 {
     let k = count_of(events.len, 16);
     let mut next = at;

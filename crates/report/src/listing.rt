@@ -4,6 +4,7 @@ ghost use Rattle.learned.specs.LearnedRules.{prefixesOf, routersOf};
 ghost use Rattle.iface.specs.AddressRules.{addrsOf};
 ghost use Rattle.iface.specs.RouteRules.{routesOf};
 ghost use Rattle.neighbor.specs.CacheCalls.{entries};
+ghost use Rattle.report.specs.AnswerLines.{Printed};
 ghost use Rattle.report.specs.StateLines.{headingLine, numberField, prefixLine, routerLine, originField, preferredField, addrLine, routeOriginField, expiryField, routeLine, neighborField, neighborLine, prefixesText, routersText, addressesText, routesText, neighborsText};
 use iface::addr::AddrOrigin;
 use iface::addr::IfaceAddr;
@@ -52,7 +53,7 @@ fn prefix_line(out: &mut [u8], at: usize, p: Prefix) -> usize
 }
 
 pub fn prefixes(out: &mut [u8], at: usize, slaac: Slaac) -> usize
-    ensures { λ r. ⌜ Put (now (out .entry)) at (prefixesText (prefixesOf slaac)) r (now (out .exit)) ⌝ }
+    ensures { λ r. ⌜ Printed (prefixesText (prefixesOf slaac)) 415 (now (out .entry)) at r (now (out .exit)) ⌝ }
 {
     let k = count_of(slaac.prefix_count, 4);
     let mut next = heading(out, at, b"prefixes ", k);
@@ -76,7 +77,7 @@ fn router_line(out: &mut [u8], at: usize, p: Router) -> usize
 }
 
 pub fn routers(out: &mut [u8], at: usize, slaac: Slaac) -> usize
-    ensures { λ r. ⌜ Put (now (out .entry)) at (routersText (routersOf slaac)) r (now (out .exit)) ⌝ }
+    ensures { λ r. ⌜ Printed (routersText (routersOf slaac)) 223 (now (out .entry)) at r (now (out .exit)) ⌝ }
 {
     let k = count_of(slaac.router_count, 2);
     let mut next = heading(out, at, b"routers ", k);
@@ -123,7 +124,7 @@ fn addr_line(out: &mut [u8], at: usize, e: IfaceAddr) -> usize
 }
 
 pub fn addresses(out: &mut [u8], at: usize, addrs: IfaceAddrs) -> usize
-    ensures { λ r. ⌜ Put (now (out .entry)) at (addressesText (addrsOf addrs)) r (now (out .exit)) ⌝ }
+    ensures { λ r. ⌜ Printed (addressesText (addrsOf addrs)) 799 (now (out .entry)) at r (now (out .exit)) ⌝ }
 {
     let k = count_of(addrs.len, 8);
     let mut next = heading(out, at, b"addresses ", k);
@@ -168,7 +169,7 @@ fn route_line(out: &mut [u8], at: usize, e: Route) -> usize
 }
 
 pub fn routes(out: &mut [u8], at: usize, table: Routes) -> usize
-    ensures { λ r. ⌜ Put (now (out .entry)) at (routesText (routesOf table)) r (now (out .exit)) ⌝ }
+    ensures { λ r. ⌜ Printed (routesText (routesOf table)) 799 (now (out .entry)) at r (now (out .exit)) ⌝ }
 {
     let k = count_of(table.len, 8);
     let mut next = heading(out, at, b"routes ", k);
@@ -219,7 +220,7 @@ fn neighbor_line(out: &mut [u8], at: usize, e: Entry) -> usize
 }
 
 pub fn neighbors(out: &mut [u8], at: usize, cache: NeighborCache) -> usize
-    ensures { λ r. ⌜ Put (now (out .entry)) at (neighborsText (entries cache)) r (now (out .exit)) ⌝ }
+    ensures { λ r. ⌜ Printed (neighborsText (entries cache)) 1567 (now (out .entry)) at r (now (out .exit)) ⌝ }
 {
     let k = count_of(cache.len, 16);
     let mut next = heading(out, at, b"neighbors ", k);

@@ -1,1 +1,4 @@
-pub mod Ranks
+pub mod AnswerLaws
+pub mod CardLaws
+pub mod CourseLaws
+pub mod StepLaws

@@ -1,1 +1,4 @@
+pub mod AnswerRules
+pub mod CardRules
 pub mod CourseRules
+pub mod StepRules

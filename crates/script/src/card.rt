@@ -1,22 +1,28 @@
 // The state that the events act on: an interface with its tables, and the neighbours.
+ghost use mathlib.Core.Path.{_≡_};
+ghost use lib.ListN.{length};
+ghost use Rattle.script.specs.CardRules.{newCard, withCache, CarriedTo, upCard, pollCard, raCard, offCard, carryOut, messageFor, Fits, Listed};
+ghost use Rattle.script.specs.StepRules.{addedCard, Applied, applied, FitsSaid, messageIn, StepTo};
+use crate::course::Said;
+use crate::course::Want;
+use crate::course::read_line;
+use crate::neighbors;
+use crate::neighbors::Cached;
+use crate::neighbors::IFACE;
+use crate::said;
+use iface::Outcome;
 use iface::addr::IfaceAddrs;
 use iface::route::Routes;
 use learned::Slaac;
 use lines::event::Event;
 use neighbor::NeighborCache;
-use neighbor::Outcome;
 use pending::PendingQueue;
-use report::answer;
 use report::listing;
-use slaac::AdvertAnswer;
-use slaac::PollAnswer;
 use time::Clock;
 use time::Instant;
 use wire::ethernet::HardwareAddress;
 use wire::ipv6::Ipv6Addr;
-
-// The program's interface.
-const IFACE: u8 = 0;
+use wire::ipv6::Ipv6Cidr;
 
 pub struct Card {
     pub slaac: Slaac,
@@ -33,9 +39,18 @@ pub struct Carried {
     pub at: usize,
 }
 
+// What a line leaves: what is wanted next, the state, and the place after what it printed.
+pub struct After {
+    pub want: Want,
+    pub card: Card,
+    pub at: usize,
+}
+
 impl Card {
     // SLAAC is on, the link is down, and the tables are empty.
-    pub fn new() -> Card {
+    pub fn new() -> Card
+        ensures { λ r. ⌜ r ≡ newCard ⌝ }
+    {
         let slaac = Slaac::new();
         let addrs = IfaceAddrs::new();
         let routes = Routes::new();
@@ -51,7 +66,9 @@ impl Card {
     }
 
     // The link comes up, which restarts router discovery.
-    fn link_up(self) -> Card {
+    fn link_up(self) -> Card
+        ensures { λ r. ⌜ r ≡ upCard self ⌝ }
+    {
         let s = self.slaac;
         let changed = s.restart(IFACE);
         let next = changed.slaac;
@@ -61,136 +78,57 @@ impl Card {
         card
     }
 
-    fn poll(self, time: u64, out: &mut [u8], at: usize) -> Carried {
+    fn poll(self, time: u64, out: &mut [u8], at: usize) -> Carried
+        ensures { λ r. ⌜ CarriedTo (pollCard self time) (now (out .entry)) at r (now (out .exit)) ⌝ }
+    {
         let s = self.slaac;
         let a = self.addrs;
         let r = self.routes;
         let h = self.hardware_addr;
         let mut message = [0u8; 16];
-        let clock = Clock::new(Instant(time));
-        let p = slaac::poll_at(s, a, r, IFACE, self.up, h, &mut message, clock);
+        let p = slaac::poll_at(
+            s,
+            a,
+            r,
+            IFACE,
+            self.up,
+            h,
+            &mut message,
+            Clock::new(Instant(time)),
+        );
         let left = p.polled;
+        let answer = left.answer;
+        let next = said::poll(out, at, time, answer, &message);
         let s2 = left.slaac;
         let a2 = left.addrs;
         let r2 = left.routes;
-        let said = left.answer;
         let mut card = self;
         card.slaac = s2;
         card.addrs = a2;
         card.routes = r2;
-        match said {
-            PollAnswer::Refused(why) => {
-                let next = answer::refused(out, at, time, why.number());
-                Carried { card, at: next }
-            }
-            PollAnswer::Off => {
-                let next = answer::off(out, at, time);
-                Carried { card, at: next }
-            }
-            PollAnswer::Quiet => Carried { card, at },
-            PollAnswer::Solicited => {
-                let next = answer::solicit(out, at, time, &message);
-                Carried { card, at: next }
-            }
-            PollAnswer::NoRoom => Carried { card, at },
-        }
+        Carried { card, at: next }
     }
 
-    fn ra(self, time: u64, source: Ipv6Addr, message: &[u8], out: &mut [u8], at: usize) -> Carried {
+    fn ra(self, time: u64, source: Ipv6Addr, message: &[u8], out: &mut [u8], at: usize) -> Carried
+        ensures { λ r. ⌜ CarriedTo (raCard self time source (now (message .entry))) (now (out .entry)) at r (now (out .exit)) ⌝ }
+    {
         let s = self.slaac;
         let c = self.cache;
         let left = slaac::process_advertisement(s, c, IFACE, source, message, Instant(time));
+        let answer = left.answer;
+        let next = said::ra(out, at, time, answer);
         let s2 = left.slaac;
         let c2 = left.cache;
-        let said = left.answer;
         let mut card = self;
         card.slaac = s2;
         card.cache = c2;
-        match said {
-            AdvertAnswer::Refused(why) => {
-                let next = answer::refused(out, at, time, why.number());
-                Carried { card, at: next }
-            }
-            AdvertAnswer::Off => {
-                let next = answer::off(out, at, time);
-                Carried { card, at: next }
-            }
-            AdvertAnswer::Done => Carried { card, at },
-        }
-    }
-
-    fn start(self, time: u64, addr: Ipv6Addr, out: &mut [u8], at: usize) -> Carried {
-        let c = self.cache;
-        let left = c.start_resolution(IFACE, addr);
-        let c2 = left.cache;
-        let said = left.outcome;
-        let mut card = self;
-        card.cache = c2;
-        match said {
-            Outcome::Refused(why) => {
-                let next = answer::refused(out, at, time, why.number());
-                Carried { card, at: next }
-            }
-            Outcome::Done => Carried { card, at },
-        }
-    }
-
-    fn sweep(self, time: u64, out: &mut [u8], at: usize) -> Carried {
-        let c = self.cache;
-        let clock = Clock::new(Instant(time));
-        let left = sweep::sweep_at(c, clock, IFACE);
-        let c2 = left.cache;
-        let events = left.events;
-        let said = left.outcome;
-        let mut card = self;
-        card.cache = c2;
-        match said {
-            Outcome::Refused(why) => {
-                let next = answer::refused(out, at, time, why.number());
-                Carried { card, at: next }
-            }
-            Outcome::Done => {
-                let next = answer::probes(out, at, time, events);
-                Carried { card, at: next }
-            }
-        }
-    }
-
-    fn fill(
-        self,
-        time: u64,
-        addr: Ipv6Addr,
-        hardware_addr: HardwareAddress,
-        out: &mut [u8],
-        at: usize,
-    ) -> Carried {
-        let c = self.cache;
-        let left = c.fill(IFACE, addr, hardware_addr, Instant(time));
-        let c2 = left.cache;
-        let said = left.outcome;
-        let mut card = self;
-        card.cache = c2;
-        match said {
-            Outcome::Refused(why) => {
-                let next = answer::refused(out, at, time, why.number());
-                Carried { card, at: next }
-            }
-            Outcome::Done => Carried { card, at },
-        }
-    }
-
-    // An absent neighbour is none to remove.
-    fn remove(self, addr: Ipv6Addr) -> Card {
-        let c = self.cache;
-        let left = c.remove(IFACE, addr);
-        let c2 = left.cache;
-        let mut card = self;
-        card.cache = c2;
-        card
+        Carried { card, at: next }
     }
 
     // The program has no packets, so the queue that is purged is empty.
-    fn off(self) -> Card {
+    fn off(self) -> Card
+        ensures { λ r. ⌜ r ≡ offCard self ⌝ }
+    {
         let s = self.slaac;
         let a = self.addrs;
         let r = self.routes;
@@ -208,50 +146,139 @@ impl Card {
         card
     }
 
+    // The neighbours after an event of theirs.
+    fn with_cache(self, cached: Cached) -> Carried
+        ensures { λ r. ⌜ (r .card ≡ withCache self (cached .cache)) × (r .at ≡ cached .at) ⌝ }
+    {
+        let c = cached.cache;
+        let mut card = self;
+        card.cache = c;
+        Carried {
+            card,
+            at: cached.at,
+        }
+    }
+
     // An event at its time, with the message of an advertisement at the front of `message`.
-    pub fn carry_out(
+    fn carry_out(
         self,
         time: u64,
         event: Event,
         message: &[u8],
         out: &mut [u8],
         at: usize,
-    ) -> Carried {
+    ) -> Carried
+        requires { ⌜ Fits (length (now message)) event ⌝ }
+        ensures { λ r. ⌜ CarriedTo (carryOut self time event (messageFor event (now (message .entry)))) (now (out .entry)) at r (now (out .exit)) ⌝ }
+    {
         match event {
-            Event::Up => {
-                let card = self.link_up();
-                Carried { card, at }
-            }
+            Event::Up => Carried {
+                card: self.link_up(),
+                at,
+            },
             Event::Down => {
                 let mut card = self;
                 card.up = false;
                 Carried { card, at }
             }
             Event::Poll => self.poll(time, out, at),
-            Event::Ra(source, n) => {
-                // A message that was read lies at the front of `message`.
-                if n <= message.len() {
-                    self.ra(time, source, &message[..n], out, at)
-                } else {
-                    Carried { card: self, at }
-                }
+            Event::Ra(source, n) => self.ra(time, source, &message[..n], out, at),
+            Event::Start(addr) => {
+                let c = self.cache;
+                self.with_cache(neighbors::start(c, time, addr, out, at))
             }
-            Event::Start(addr) => self.start(time, addr, out, at),
-            Event::Sweep => self.sweep(time, out, at),
-            Event::Fill(addr, hardware_addr) => self.fill(time, addr, hardware_addr, out, at),
+            Event::Sweep => {
+                let c = self.cache;
+                self.with_cache(neighbors::sweep(c, time, out, at))
+            }
+            Event::Fill(addr, hardware_addr) => {
+                let c = self.cache;
+                self.with_cache(neighbors::fill(c, time, addr, hardware_addr, out, at))
+            }
             Event::Remove(addr) => {
-                let card = self.remove(addr);
-                Carried { card, at }
+                let c = self.cache;
+                self.with_cache(neighbors::remove(c, addr, at))
             }
-            Event::Off => {
-                let card = self.off();
-                Carried { card, at }
+            Event::Off => Carried {
+                card: self.off(),
+                at,
+            },
+        }
+    }
+
+    // An address of the header. What the table refuses is a bad line.
+    fn add_address(self, cidr: Ipv6Cidr, want: Want, at: usize) -> After
+        ensures { λ r. ⌜ Applied (addedCard self cidr want) at r ⌝ }
+    {
+        let t = self.addrs;
+        let added = t.add_ip_addr(IFACE, cidr);
+        let answer = added.outcome;
+        match answer {
+            Outcome::Refused(_) => After {
+                want: Want::Failed,
+                card: self,
+                at,
+            },
+            Outcome::Done => {
+                let t2 = added.addrs;
+                let mut card = self;
+                card.addrs = t2;
+                After { want, card, at }
             }
         }
     }
 
+    // What a line said.
+    fn apply(self, said: Said, message: &[u8], out: &mut [u8], at: usize) -> After
+        requires { ⌜ FitsSaid (length (now message)) said ⌝ }
+        ensures { λ r. ⌜ applied self said (messageIn said (now (message .entry))) (now (out .entry)) at r (now (out .exit)) ⌝ }
+    {
+        match said {
+            Said::Bad => After {
+                want: Want::Failed,
+                card: self,
+                at,
+            },
+            Said::Mac(h) => {
+                let mut card = self;
+                card.hardware_addr = h;
+                After {
+                    want: Want::Addresses,
+                    card,
+                    at,
+                }
+            }
+            Said::Next(want) => After {
+                want,
+                card: self,
+                at,
+            },
+            Said::Static(cidr, want) => self.add_address(cidr, want, at),
+            Said::Event(time, event, want) => {
+                let done = self.carry_out(time, event, message, out, at);
+                let card = done.card;
+                After {
+                    want,
+                    card,
+                    at: done.at,
+                }
+            }
+        }
+    }
+
+    // One line of the input. The message of an advertisement has half as many bytes as its line has digits, at most.
+    pub fn step(self, want: Want, line: &[u8], out: &mut [u8], at: usize) -> After
+        ensures { λ r. ⌜ StepTo want self (now (line .entry)) (now (out .entry)) at r (now (out .exit)) ⌝ }
+    {
+        let mut message = [0u8; 2048];
+        let said = read_line(want, line, &mut message);
+        self.apply(said, &message, out, at)
+    }
+
     // The state, listed.
-    pub fn list(self, out: &mut [u8], at: usize) -> usize {
+    pub fn list(self, out: &mut [u8], at: usize) -> usize
+        ensures { λ r. ⌜ Listed self (now (out .entry)) at r (now (out .exit)) ⌝ }
+    {
         let s = self.slaac;
         let a = listing::prefixes(out, at, s);
         let b = listing::routers(out, a, s);

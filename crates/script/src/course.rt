@@ -1,14 +1,15 @@
-// Which line is wanted next, and what a line does.
+// Which line is wanted next, and what a line says. No state is looked at.
 ghost use mathlib.Core.Path.{_≡_};
-ghost use Prim.Native.Nat.{_+_, _<_};
-ghost use Rattle.script.specs.CourseRules.{addressWant, eventWant, rank, Falls};
-use crate::card::Card;
-use iface::Outcome;
+ghost use lib.ListN.{length};
+ghost use Rattle.script.specs.CourseRules.{addressWant, eventWant, SaidTo};
+use lines::event::Event;
 use lines::event::Parsed;
 use lines::event::parse_event;
 use lines::header::Static;
 use text::address::Hardware;
 use text::number::Number;
+use wire::ethernet::HardwareAddress;
+use wire::ipv6::Ipv6Cidr;
 
 // Address and Event hold how many more follow that one.
 pub enum Want {
@@ -23,11 +24,16 @@ pub enum Want {
     Failed,
 }
 
-// What a line leaves: what is wanted next, the state, and the place after what it printed.
-pub struct After {
-    pub want: Want,
-    pub card: Card,
-    pub at: usize,
+// What a line says, and what is wanted after it.
+pub enum Said {
+    Bad,
+    Mac(HardwareAddress),
+    // A count.
+    Next(Want),
+    // An address for the table.
+    Static(Ipv6Cidr, Want),
+    // An event at its time.
+    Event(u64, Event, Want),
 }
 
 fn address_want(n: u64) -> Want
@@ -50,128 +56,35 @@ fn event_want(n: u64) -> Want
     }
 }
 
-// A line of the address table, after which n are still wanted. What the table refuses is a bad line.
-fn address_line(card: Card, n: u64, line: &[u8], at: usize) -> After
-    ensures { λ r. ⌜ rank (r .want) < 18446744073709551619 + n ⌝ }
-{
-    match lines::header::address_line(line) {
-        Static::Value(cidr) => {
-            let t = card.addrs;
-            let added = t.add_ip_addr(0, cidr);
-            let t2 = added.addrs;
-            let said = added.outcome;
-            match said {
-                Outcome::Refused(_) => After {
-                    want: Want::Failed,
-                    card,
-                    at,
-                },
-                Outcome::Done => {
-                    let mut c = card;
-                    c.addrs = t2;
-                    After {
-                        want: address_want(n),
-                        card: c,
-                        at,
-                    }
-                }
-            }
-        }
-        Static::Bad => After {
-            want: Want::Failed,
-            card,
-            at,
-        },
-    }
-}
-
-// An event's line, after which n are still wanted. The message of an advertisement has half as many bytes as its line
-// has digits, at most.
-fn event_line(card: Card, n: u64, line: &[u8], out: &mut [u8], at: usize) -> After
-    ensures { λ r. ⌜ rank (r .want) < 2 + n ⌝ }
-{
-    let mut message = [0u8; 2048];
-    match parse_event(line, &mut message) {
-        Parsed::At(time, event) => {
-            let done = card.carry_out(time, event, &message, out, at);
-            let after = done.card;
-            After {
-                want: event_want(n),
-                card: after,
-                at: done.at,
-            }
-        }
-        Parsed::Bad => After {
-            want: Want::Failed,
-            card,
-            at,
-        },
-    }
-}
-
-// One line of the input.
-pub fn step(want: Want, card: Card, line: &[u8], out: &mut [u8], at: usize) -> After
-    ensures { λ r. ⌜ Falls want (r .want) ⌝ }
+// Reads a line of the kind that is wanted. The message of an advertisement is read into the front of `message`.
+pub fn read_line(want: Want, line: &[u8], message: &mut [u8]) -> Said
+    ensures { λ r. ⌜ SaidTo (length (now (message .entry))) want (now (line .entry)) r (now (message .exit)) ⌝ }
 {
     if line.len() > 4096 {
-        return After {
-            want: Want::Failed,
-            card,
-            at,
-        };
+        return Said::Bad;
     }
     match want {
         Want::Mac => match lines::header::mac(line) {
-            Hardware::Value(h) => {
-                let mut c = card;
-                c.hardware_addr = h;
-                After {
-                    want: Want::Addresses,
-                    card: c,
-                    at,
-                }
-            }
-            Hardware::Bad => After {
-                want: Want::Failed,
-                card,
-                at,
-            },
+            Hardware::Value(h) => Said::Mac(h),
+            Hardware::Bad => Said::Bad,
         },
         Want::Addresses => match lines::header::counted(line, b"addresses") {
-            Number::Value(n) => After {
-                want: address_want(n),
-                card,
-                at,
-            },
-            Number::Bad => After {
-                want: Want::Failed,
-                card,
-                at,
-            },
+            Number::Value(n) => Said::Next(address_want(n)),
+            Number::Bad => Said::Bad,
         },
-        Want::Address(n) => address_line(card, n, line, at),
+        Want::Address(n) => match lines::header::address_line(line) {
+            Static::Value(cidr) => Said::Static(cidr, address_want(n)),
+            Static::Bad => Said::Bad,
+        },
         Want::Events => match lines::header::counted(line, b"events") {
-            Number::Value(n) => After {
-                want: event_want(n),
-                card,
-                at,
-            },
-            Number::Bad => After {
-                want: Want::Failed,
-                card,
-                at,
-            },
+            Number::Value(n) => Said::Next(event_want(n)),
+            Number::Bad => Said::Bad,
         },
-        Want::Event(n) => event_line(card, n, line, out, at),
-        Want::Nothing => After {
-            want: Want::Failed,
-            card,
-            at,
+        Want::Event(n) => match parse_event(line, message) {
+            Parsed::At(time, event) => Said::Event(time, event, event_want(n)),
+            Parsed::Bad => Said::Bad,
         },
-        Want::Failed => After {
-            want: Want::Failed,
-            card,
-            at,
-        },
+        Want::Nothing => Said::Bad,
+        Want::Failed => Said::Bad,
     }
 }

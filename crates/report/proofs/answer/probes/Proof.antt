@@ -6,7 +6,8 @@ use lib.ListN.{length}
 use Rattle.table.proofs.Laws.{mapped}
 use Rattle.sweep.specs.SweepCalls.{blankEvent}
 use Rattle.report.specs.AnswerLines.{slotLine, probeLines}
-use Rattle.report.proofs.ListingLaws.{Listing, listing, list-next, listed-all}
+use Rattle.report.proofs.ListingLaws.{Listing, listing, list-next, listed-all, few}
+use Rattle.report.proofs.Lengths.{probes-short}
 use Rattle.text.proofs.PlaceLaws.{put-none}
 use Rattle.report.proofs.answer.probes.Statement.{statement}
 use Rattle.report.proofs.answer.probes.Tie as tie
@@ -52,7 +53,7 @@ same-length c = search needs
 
 returns : tie.Need-returns Inv-loop μ-loop
 unfolding probeLines
-returns c = listed-all (c .before .loop .inv) (c .loop-test .left)
+returns c = record { put = listed-all (c .before .loop .inv) (c .loop-test .left); short = probes-short (c .before .before .before .before .args .time) (c .before .before .before .before .args .t4) (few (c .before .loop .inv)) }
 
 pub probes-spec : {M : Type 1} → statement M
 probes-spec =

@@ -1,0 +1,50 @@
+-- Laws of what an answer prints: its text by the answer, and how long it is at most. Assumes nothing.
+use Prim.Native.Nat.{ℕ, _≤_}
+use mathlib.Core.Path.{_≡_, sym, ap}
+use mathlib.Core.List.{List, []}
+use native.Mathlib.Omega.{arith}
+use lib.ListN.{length}
+use Rattle.text.specs.Place.{Put}
+use Rattle.text.proofs.PlaceLaws.{put-as}
+use Rattle.wire.specs.declared.error.Refusal.{Refusal}
+use Rattle.wire.specs.Refusals.{numberOf}
+use Rattle.report.specs.AnswerLines.{Printed, refusedLine}
+use Rattle.report.proofs.Lengths.{Short, solicit-short, refused-short, off-short}
+use Rattle.neighbor.specs.declared.Outcome.{Outcome}
+use Rattle.neighbor.specs.declared.Outcome.the-variants.{Refused as NotDone, Done}
+use Rattle.sweep.specs.declared.Events.{Events}
+use Rattle.slaac.specs.declared.PollAnswer.{PollAnswer}
+use Rattle.slaac.specs.declared.PollAnswer.the-variants.{Refused, Off as IsOff, Quiet, Solicited, NoRoom}
+use Rattle.slaac.specs.declared.AdvertAnswer.{AdvertAnswer}
+use Rattle.slaac.specs.declared.AdvertAnswer.the-variants.{Refused as Denied, Off as TurnedOff, Done as Heard}
+use Rattle.script.specs.AnswerRules.{pollText, raText, changeText, sweepText}
+
+-- a refusal's line, where its number is known by another name
+pub refusal : {out out' : List ℕ} {at r : ℕ} (t n : ℕ) (why : Refusal) → n ≡ numberOf why → Put out at (refusedLine t n) r out' → Put out at (refusedLine t (numberOf why)) r out'
+refusal t n why e p = put-as (ap (refusedLine t) e) p
+
+none : Short [] 1040
+none = record { is = omega arith }
+
+pub poll-short : (t : ℕ) (a : PollAnswer) (message : List ℕ) → length message ≤ 16 → Short (pollText t a message) 1040
+poll-short t (Refused why) message h = refused-short t (numberOf why)
+poll-short t IsOff message h = off-short t
+poll-short t Quiet message h = none
+poll-short t Solicited message h = solicit-short t message h
+poll-short t NoRoom message h = none
+
+pub ra-short : (t : ℕ) (a : AdvertAnswer) → Short (raText t a) 1040
+ra-short t (Denied why) = refused-short t (numberOf why)
+ra-short t TurnedOff = off-short t
+ra-short t Heard = none
+
+pub change-short : (t : ℕ) (o : Outcome) → Short (changeText t o) 1040
+change-short t (NotDone why) = refused-short t (numberOf why)
+change-short t Done = none
+
+pub sweep-refused : {out out' : List ℕ} {at r : ℕ} (t n : ℕ) (why : Refusal) (v : Events) → n ≡ numberOf why → Put out at (refusedLine t n) r out'
+    → Printed (sweepText t (NotDone why) v) 1040 out at r out'
+sweep-refused t n why v e p = record { put = refusal t n why e p; short = refused-short t (numberOf why) .is }
+
+pub printed-as : {a b : List ℕ} {m : ℕ} {out out' : List ℕ} {at r : ℕ} → a ≡ b → Printed a m out at r out' → Printed b m out at r out'
+printed-as e p = rw e at p

@@ -1,0 +1,58 @@
+-- Laws of the course: what a line says, and that each leaves fewer that can still come. Assumes nothing.
+use Prim.Native.Nat.{ℕ, _+_, _-_, _≤_, _<_}
+use mathlib.Core.Path.{_≡_, refl, sym, ap, _∙_}
+use mathlib.Core.Bool.{Bool, true, false, cond}
+use mathlib.Core.List.{List, []}
+use native.Mathlib.Omega.{arith}
+use lib.ListN.{length}
+use lib.Dec.{eqb}
+use borrow.Author.Tests.{eqb-false, lt-ltb, le-ltb}
+use Rattle.text.specs.Fields.{fields}
+use Rattle.lines.specs.EventLines.{parsedBytes, ReadyEvent}
+use Rattle.lines.specs.declared.event.Event.{Event as AnEvent}
+use Rattle.wire.specs.declared.ipv6.Ipv6Cidr.{Ipv6Cidr}
+use Rattle.script.specs.declared.course.Want.{Want}
+use Rattle.script.specs.declared.course.Want.the-variants.{Mac, Addresses, Address, Events, Event, Nothing, Failed}
+use Rattle.script.specs.declared.course.Said.{Said}
+use Rattle.script.specs.declared.course.Said.the-variants.{Bad, Mac as IsMac, Next, Static, Event as Happens}
+use Rattle.script.specs.CourseRules.{addressWant, eventWant, saidOf, saidIn, nextOf, rank, ReadySaid, SaidTo}
+
+address-by : (n : ℕ) (b : Bool) → eqb n 0 ≡ b → rank (cond b Events (Address (n - 1))) < 18446744073709551619 + n
+address-by n true e = omega arith
+address-by n false e = let h = eqb-false n 0 e in omega arith
+
+pub address-falls : (n : ℕ) → rank (addressWant n) < 18446744073709551619 + n
+address-falls n = address-by n (eqb n 0) refl
+
+event-by : (n : ℕ) (b : Bool) → eqb n 0 ≡ b → rank (cond b Nothing (Event (n - 1))) < 2 + n
+event-by n true e = omega arith
+event-by n false e = let h = eqb-false n 0 e in omega arith
+
+pub event-falls : (n : ℕ) → rank (eventWant n) < 2 + n
+event-falls n = event-by n (eqb n 0) refl
+
+pub too-long : (room : ℕ) (w : Want) (line message : List ℕ) → 4096 < length line → SaidTo room w line Bad message
+unfolding saidIn
+too-long room w line message h = record { is = rw (lt-ltb 4096 (length line) h) refl; ready = tt; falls = λ k. k }
+
+module _ (room : ℕ) (w : Want) (line message : List ℕ) (h : length line ≤ 4096) where
+  -- a line where v is wanted
+  pub says : (v : Want) (r : Said) → w ≡ v → r ≡ saidOf room v (fields line) → ReadySaid message (parsedBytes room (fields line)) r → rank (nextOf r) < rank v
+      → SaidTo room w line r message
+  unfolding saidIn
+  says v r p q z f = record { is = rw (le-ltb 4096 (length line) h, p) q; ready = z; falls = λ k. rw p f }
+
+  -- where a bad line has come
+  pub over : w ≡ Failed → SaidTo room w line Bad message
+  unfolding saidIn
+  over p = record { is = rw (le-ltb 4096 (length line) h, p) refl; ready = tt; falls = λ k. absurd (let y = rw p at k in omega arith) }
+
+-- what is wanted, known by another name
+pub as-rank : {u v : Want} {m : ℕ} → u ≡ v → rank v < m → rank u < m
+as-rank e h = rw e h
+
+pub static-as : {c : Ipv6Cidr} {u v : Want} → u ≡ v → Static c u ≡ Static c v
+static-as {c} e = ap (λ (w : Want). Static c w) e
+
+pub happens-as : {t : ℕ} {e : AnEvent} {u v : Want} → u ≡ v → Happens t e u ≡ Happens t e v
+happens-as {t} {e} p = ap (λ (w : Want). Happens t e w) p

@@ -1,0 +1,16 @@
+use borrow.Author.Needs.{needs}
+use Rattle.script.proofs.CardLaws.{up-card}
+use Rattle.script.proofs.card.Card.link_up.Statement.{statement}
+use Rattle.script.proofs.card.Card.link_up.Tie as tie
+use Rattle.script.proofs.card.Card.link_up.Reads as reads
+use Rattle.script.proofs.card.Card.link_up.Lts as lts
+use Rattle.learned.proofs.Slaac.restart.Reads as restart-reads
+
+restart-requires : tie.Need-restart-requires
+restart-requires c κs = search needs
+
+returns : tie.Need-returns
+returns c = up-card (c .before .before .before .args .self) (c .before .restart .result) (c .before .restart .ensures)
+
+pub link-up-spec : {M : Type 1} → statement M
+link-up-spec = tie.close (tie.spec restart-requires returns)

@@ -1,0 +1,28 @@
+use borrow.Author.Needs.{needs}
+use Rattle.script.proofs.CardLaws.{new-card}
+use Rattle.script.proofs.card.Card.new.Statement.{statement}
+use Rattle.script.proofs.card.Card.new.Tie as tie
+use Rattle.script.proofs.card.Card.new.Reads as reads
+use Rattle.script.proofs.card.Card.new.Lts as lts
+use Rattle.iface.proofs.addr.IfaceAddrs.new.Reads as addr-IfaceAddrs-new-reads
+use Rattle.iface.proofs.route.Routes.new.Reads as route-Routes-new-reads
+use Rattle.learned.proofs.Slaac.new.Reads as Slaac-new-reads
+use Rattle.neighbor.proofs.NeighborCache.new.Reads as NeighborCache-new-reads
+
+new-requires : tie.Need-new-requires
+new-requires c κs = search needs
+
+new-requires-2 : tie.Need-new-requires-2
+new-requires-2 c κs = search needs
+
+new-requires-3 : tie.Need-new-requires-3
+new-requires-3 c κs = search needs
+
+new-requires-4 : tie.Need-new-requires-4
+new-requires-4 c κs = search needs
+
+returns : tie.Need-returns
+returns c = new-card (c .before .before .before .new .ensures) (c .before .before .new2 .ensures) (c .before .new3 .ensures) (c .new4 .ensures)
+
+pub new-spec : {M : Type 1} → statement M
+new-spec = tie.close (tie.spec new-requires new-requires-2 new-requires-3 new-requires-4 returns)

@@ -1,0 +1,53 @@
+use mathlib.Core.Path.{sym, ap}
+use borrow.Author.Needs.{needs}
+use Rattle.neighbor.specs.declared.Outcome.{Outcome}
+use Rattle.script.specs.AnswerRules.{sweepText}
+use Rattle.script.proofs.AnswerLaws.{sweep-refused, printed-as}
+use Rattle.script.proofs.said.sweep.Statement.{statement}
+use Rattle.script.proofs.said.sweep.Tie as tie
+use Rattle.script.proofs.said.sweep.Reads as reads
+use Rattle.script.proofs.said.sweep.Lts as lts
+use Rattle.report.proofs.answer.probes.Reads as probes-reads
+use Rattle.report.proofs.answer.refused.Reads as refused-reads
+use Rattle.wire.proofs.error.Refusal.number.Reads as number-reads
+
+enum-known-said : tie.Need-enum-known-said
+enum-known-said c = search needs
+
+number-requires : tie.Need-number-requires
+number-requires c κs = search needs
+
+refused-requires : tie.Need-refused-requires
+refused-requires c κs = search needs
+
+enum-told : tie.Need-enum-told
+enum-told c = search needs
+
+probes-requires : tie.Need-probes-requires
+probes-requires c κs = search needs
+
+same-length : tie.Need-same-length
+same-length c = search needs
+
+returns : tie.Need-returns
+returns c = printed-as (ap (λ (o : Outcome). sweepText (c .before .before .before .before .before .before .before .before .before .args .time) o (c .before .before .before .before .before .before .before .before .before .args .events)) (sym (c .before .before .before .before .before .before .said .given .1))) (sweep-refused (c .before .before .before .before .before .before .before .before .before .args .time) (c .before .before .before .number .result) (c .before .before .before .before .before .before .said .given .0 .0) (c .before .before .before .before .before .before .before .before .before .args .events) (c .before .before .before .number .ensures) (c .before .before .refused .ensures))
+
+same-length-2 : tie.Need-same-length-2
+same-length-2 c = search needs
+
+returns-2 : tie.Need-returns-2
+returns-2 c = printed-as (ap (λ (o : Outcome). sweepText (c .before .before .before .before .before .before .before .args .time) o (c .before .before .before .before .before .before .before .args .events)) (sym (c .before .before .before .before .enum-told .given .1))) (c .before .before .probes .ensures)
+
+pub sweep-spec : {M : Type 1} → statement M
+sweep-spec =
+    tie.close
+    (tie.spec
+    enum-known-said
+    number-requires
+    refused-requires
+    enum-told
+    probes-requires
+    same-length
+    returns
+    same-length-2
+    returns-2)
