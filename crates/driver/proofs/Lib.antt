@@ -1,1 +1,1 @@
-pub mod Bools
+pub mod RunLaws

@@ -34,15 +34,10 @@ fn one_case(k: u64) -> Case {
     if held < 0 {
         return Case::Differs;
     }
-    let ok = driver::run(from, Sink::Compare(held));
-    let whole = input::sink::done(Sink::Compare(held));
+    let same = driver::run(from, Sink::Compare(held));
     libc::close(from);
     libc::close(held);
-    if ok && whole {
-        Case::Same
-    } else {
-        Case::Differs
-    }
+    if same { Case::Same } else { Case::Differs }
 }
 
 fn main() {

@@ -1,40 +1,39 @@
 -- How long the printed texts are at most: 1,040 bytes for an event, 4,096 for the state. Assumes nothing.
-use Prim.Native.Nat.{ℕ, zero, suc, _+_, _*_, _/_, _%_, _≤_, _<_}
-use mathlib.Core.Path.{_≡_, refl, sym, ap, _∙_}
+use Prim.Native.Nat.{ℕ, zero, suc, _+_, _*_, _/_, _%_, _≤_}
+use lib.Dec.{ltb}
+use lib.ListN.{length, take, length-append}
 use mathlib.Core.Bool.{Bool, true, false, cond}
 use mathlib.Core.List.{List, [], _∷_, _++_}
-use native.Mathlib.Omega.{arith}
+use mathlib.Core.Path.{_≡_}
 use native.Mathlib.Numerals.{unary-clauses}
-use lib.ListN.{length, take, length-append, length-take}
-use lib.Dec.{ltb}
-use Rattle.text.specs.Decimal.{decimalBy, decimal}
-use Rattle.text.specs.Hex.{hexed}
-use Rattle.text.proofs.HexLaws.{hexed-length}
-use Rattle.wire.specs.Rfc4291.{addressBytes}
-use Rattle.wire.specs.Rfc2464.{hardwareBytes}
-use Rattle.wire.specs.declared.ipv6.Ipv6Addr.{Ipv6Addr}
-use Rattle.wire.specs.declared.ethernet.HardwareAddress.{HardwareAddress}
+use native.Mathlib.Omega.{arith}
+use Rattle.iface.specs.declared.addr.AddrOrigin.the-variants.{Manual, Slaac}
+use Rattle.iface.specs.declared.addr.AddrOrigin.{AddrOrigin}
+use Rattle.iface.specs.declared.addr.IfaceAddr.{IfaceAddr}
+use Rattle.iface.specs.declared.addr.Preferred.the-variants.{Always, Until, Never}
+use Rattle.iface.specs.declared.addr.Preferred.{Preferred}
+use Rattle.iface.specs.declared.route.Expiry.the-variants.{Forever, At}
+use Rattle.iface.specs.declared.route.Expiry.{Expiry}
+use Rattle.iface.specs.declared.route.Route.{Route}
+use Rattle.iface.specs.declared.route.RouteOrigin.the-variants.{Manual as Added, Slaac as Learned}
+use Rattle.iface.specs.declared.route.RouteOrigin.{RouteOrigin}
 use Rattle.learned.specs.declared.Prefix.{Prefix}
 use Rattle.learned.specs.declared.Router.{Router}
-use Rattle.iface.specs.declared.addr.AddrOrigin.{AddrOrigin}
-use Rattle.iface.specs.declared.addr.AddrOrigin.the-variants.{Manual, Slaac}
-use Rattle.iface.specs.declared.addr.Preferred.{Preferred}
-use Rattle.iface.specs.declared.addr.Preferred.the-variants.{Always, Until, Never}
-use Rattle.iface.specs.declared.addr.IfaceAddr.{IfaceAddr}
-use Rattle.iface.specs.declared.route.RouteOrigin.{RouteOrigin}
-use Rattle.iface.specs.declared.route.RouteOrigin.the-variants.{Manual as Added, Slaac as Learned}
-use Rattle.iface.specs.declared.route.Expiry.{Expiry}
-use Rattle.iface.specs.declared.route.Expiry.the-variants.{Forever, At}
-use Rattle.iface.specs.declared.route.Route.{Route}
-use Rattle.neighbor.specs.declared.State.{State}
-use Rattle.neighbor.specs.declared.State.the-variants.{Started, Incomplete, Reachable, Stale}
 use Rattle.neighbor.specs.declared.Entry.{Entry}
-use Rattle.sweep.specs.declared.ProbeEvent.{ProbeEvent}
-use Rattle.sweep.specs.declared.ProbeEvent.the-variants.{Retransmit, Failed}
-use Rattle.sweep.specs.declared.EventSlot.{EventSlot}
-use Rattle.sweep.specs.declared.Events.{Events}
+use Rattle.neighbor.specs.declared.State.the-variants.{Started, Incomplete, Reachable, Stale}
+use Rattle.neighbor.specs.declared.State.{State}
 use Rattle.report.specs.AnswerLines.{newline, eachLine, solicitWord, refusedWord, offWord, retransmitWord, failedWord, solicitLine, refusedLine, offLine, probeLine, slotLine, probeLines}
 use Rattle.report.specs.StateLines.{headingLine, section, addressField, hardwareField, numberField, prefixLine, routerLine, originField, preferredField, addrLine, routeOriginField, expiryField, routeLine, neighborField, neighborLine, prefixesText, routersText, addressesText, routesText, neighborsText, stateText, reachableWord, staleWord, dashWord, prefixesWord, routersWord, addressesWord, routesWord, neighborsWord}
+use Rattle.sweep.specs.declared.Events.{Events}
+use Rattle.sweep.specs.declared.ProbeEvent.the-variants.{Retransmit, Failed}
+use Rattle.sweep.specs.declared.ProbeEvent.{ProbeEvent}
+use Rattle.text.proofs.HexLaws.{hexed-length}
+use Rattle.text.specs.Decimal.{decimalBy, decimal}
+use Rattle.text.specs.Hex.{hexed}
+use Rattle.wire.specs.Rfc2464.{hardwareBytes}
+use Rattle.wire.specs.Rfc4291.{addressBytes}
+use Rattle.wire.specs.declared.ethernet.HardwareAddress.{HardwareAddress}
+use Rattle.wire.specs.declared.ipv6.Ipv6Addr.{Ipv6Addr}
 
 -- ---- fields
 

@@ -1,15 +1,15 @@
 -- Laws of listing a table: one more entry, and the last. Assumes nothing.
-use Prim.Native.Nat.{ℕ, zero, suc, _+_, _*_, _-_, _≤_, _<_, min}
-use mathlib.Core.Path.{_≡_, refl, sym, ap, _∙_}
-use mathlib.Core.List.{List, [], _∷_, _++_, append-assoc, append-nil}
-use native.Mathlib.Omega.{arith}
-use native.Mathlib.Numerals.{add-one}
+use Prim.Native.Nat.{ℕ, zero, suc, _+_, _≤_, _<_, min}
 use lib.ListN.{length, take, getD, length-take}
 use lib.Seq.{take-suc, take-all}
-use Rattle.text.specs.Place.{Put}
-use Rattle.text.proofs.PlaceLaws.{chain, put-as}
+use mathlib.Core.List.{List, [], _∷_, _++_, append-assoc, append-nil}
+use mathlib.Core.Path.{_≡_, refl, sym, ap, _∙_}
+use native.Mathlib.Numerals.{add-one}
+use native.Mathlib.Omega.{arith}
 use Rattle.report.specs.AnswerLines.{eachLine}
 use Rattle.report.specs.StateLines.{headingLine, section}
+use Rattle.text.proofs.PlaceLaws.{chain, put-as}
+use Rattle.text.specs.Place.{Put}
 
 each-append : {A : Type 0} (line : A → List ℕ) (a b : List A) → eachLine line (a ++ b) ≡ eachLine line a ++ eachLine line b
 each-append line [] b = refl

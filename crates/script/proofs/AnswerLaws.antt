@@ -1,23 +1,23 @@
 -- Laws of what an answer prints: its text by the answer, and how long it is at most. Assumes nothing.
 use Prim.Native.Nat.{ℕ, _≤_}
-use mathlib.Core.Path.{_≡_, sym, ap}
-use mathlib.Core.List.{List, []}
-use native.Mathlib.Omega.{arith}
 use lib.ListN.{length}
-use Rattle.text.specs.Place.{Put}
-use Rattle.text.proofs.PlaceLaws.{put-as}
-use Rattle.wire.specs.declared.error.Refusal.{Refusal}
-use Rattle.wire.specs.Refusals.{numberOf}
-use Rattle.report.specs.AnswerLines.{Printed, refusedLine}
-use Rattle.report.proofs.Lengths.{Short, solicit-short, refused-short, off-short}
-use Rattle.neighbor.specs.declared.Outcome.{Outcome}
+use mathlib.Core.List.{List, []}
+use mathlib.Core.Path.{_≡_, ap}
+use native.Mathlib.Omega.{arith}
 use Rattle.neighbor.specs.declared.Outcome.the-variants.{Refused as NotDone, Done}
-use Rattle.sweep.specs.declared.Events.{Events}
-use Rattle.slaac.specs.declared.PollAnswer.{PollAnswer}
-use Rattle.slaac.specs.declared.PollAnswer.the-variants.{Refused, Off as IsOff, Quiet, Solicited, NoRoom}
-use Rattle.slaac.specs.declared.AdvertAnswer.{AdvertAnswer}
-use Rattle.slaac.specs.declared.AdvertAnswer.the-variants.{Refused as Denied, Off as TurnedOff, Done as Heard}
+use Rattle.neighbor.specs.declared.Outcome.{Outcome}
+use Rattle.report.proofs.Lengths.{Short, solicit-short, refused-short, off-short}
+use Rattle.report.specs.AnswerLines.{Printed, refusedLine}
 use Rattle.script.specs.AnswerRules.{pollText, raText, changeText, sweepText}
+use Rattle.slaac.specs.declared.AdvertAnswer.the-variants.{Refused as Denied, Off as TurnedOff, Done as Heard}
+use Rattle.slaac.specs.declared.AdvertAnswer.{AdvertAnswer}
+use Rattle.slaac.specs.declared.PollAnswer.the-variants.{Refused, Off as IsOff, Quiet, Solicited, NoRoom}
+use Rattle.slaac.specs.declared.PollAnswer.{PollAnswer}
+use Rattle.sweep.specs.declared.Events.{Events}
+use Rattle.text.proofs.PlaceLaws.{put-as}
+use Rattle.text.specs.Place.{Put}
+use Rattle.wire.specs.Refusals.{numberOf}
+use Rattle.wire.specs.declared.error.Refusal.{Refusal}
 
 -- a refusal's line, where its number is known by another name
 pub refusal : {out out' : List ℕ} {at r : ℕ} (t n : ℕ) (why : Refusal) → n ≡ numberOf why → Put out at (refusedLine t n) r out' → Put out at (refusedLine t (numberOf why)) r out'

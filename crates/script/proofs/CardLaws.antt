@@ -1,51 +1,51 @@
 -- Laws of carrying an event out: what the calls' contracts say, put together. Assumes nothing.
 use Prim.Native.Nat.{ℕ, _≤_}
-use mathlib.Core.Path.{_≡_, refl, sym, ap, ap₂, _∙_}
+use lib.ListN.{length, take}
+use lib.Seq.{length-take-le}
 use mathlib.Core.Bool.{true, false}
 use mathlib.Core.List.{List, []}
+use mathlib.Core.Path.{_≡_, refl, sym, ap, ap₂, _∙_}
 use native.Mathlib.Omega.{arith}
-use lib.ListN.{length, take, length-take}
-use lib.Seq.{length-take-le}
-use Rattle.time.specs.declared.Clock.{Clock}
-use Rattle.time.specs.ClockRules.{idle}
-use Rattle.wire.specs.declared.ipv6.Ipv6Addr.{Ipv6Addr}
-use Rattle.wire.specs.declared.ethernet.HardwareAddress.{HardwareAddress}
-use Rattle.text.specs.Place.{Put}
-use Rattle.text.proofs.PlaceLaws.{put-as, put-none, chain}
-use Rattle.lines.specs.declared.event.Event.{Event}
-use Rattle.lines.specs.declared.event.Event.the-variants.{Up, Down, Poll, Sweep, Off, Ra, Start, Fill, Remove}
-use Rattle.lines.specs.EventLines.{ReadyEvent}
-use Rattle.report.specs.AnswerLines.{Printed}
-use Rattle.report.specs.StateLines.{prefixesText, routersText, addressesText, routesText, neighborsText, stateText}
-use Rattle.report.proofs.Lengths.{Short, state-short}
-use Rattle.learned.specs.declared.Slaac.{Slaac}
-use Rattle.learned.specs.declared.Changed.{Changed as Restarted}
-use Rattle.learned.specs.DiscoveryRules.{fresh, RestartedTo}
-use Rattle.learned.specs.LearnedRules.{prefixesOf, routersOf}
-use Rattle.iface.specs.declared.addr.IfaceAddrs.{IfaceAddrs}
-use Rattle.iface.specs.declared.route.Routes.{Routes}
 use Rattle.iface.specs.AddressRules.{emptyAddrs, addrsOf}
 use Rattle.iface.specs.RouteRules.{emptyRoutes, routesOf}
-use Rattle.neighbor.specs.declared.NeighborCache.{NeighborCache}
-use Rattle.neighbor.specs.declared.Changed.{Changed}
-use Rattle.neighbor.specs.declared.Removed.{Removed}
+use Rattle.iface.specs.declared.addr.IfaceAddrs.{IfaceAddrs}
+use Rattle.iface.specs.declared.route.Routes.{Routes}
+use Rattle.learned.specs.DiscoveryRules.{fresh, RestartedTo}
+use Rattle.learned.specs.LearnedRules.{prefixesOf, routersOf}
+use Rattle.learned.specs.declared.Changed.{Changed as Restarted}
+use Rattle.learned.specs.declared.Slaac.{Slaac}
+use Rattle.lines.specs.EventLines.{ReadyEvent}
+use Rattle.lines.specs.declared.event.Event.the-variants.{Up, Down, Poll, Sweep, Off, Ra, Start, Fill, Remove}
+use Rattle.lines.specs.declared.event.Event.{Event}
 use Rattle.neighbor.specs.CacheCalls.{empty, entries, startTo, fillTo, RemovedTo}
-use Rattle.sweep.specs.declared.Swept.{Swept}
-use Rattle.sweep.specs.SweepCalls.{SweptTo}
-use Rattle.pending.specs.declared.PendingQueue.{PendingQueue}
+use Rattle.neighbor.specs.declared.Changed.{Changed}
+use Rattle.neighbor.specs.declared.NeighborCache.{NeighborCache}
+use Rattle.neighbor.specs.declared.Removed.{Removed}
 use Rattle.pending.specs.QueueCalls.{empty as noPackets}
-use Rattle.slaac.specs.declared.PolledAt.{PolledAt}
-use Rattle.slaac.specs.declared.Advertised.{Advertised}
-use Rattle.slaac.specs.declared.TurnedOff.{TurnedOff}
-use Rattle.slaac.specs.SlaacRules.{AdvertisedTo}
-use Rattle.slaac.specs.PollRules.{PolledTo}
-use Rattle.slaac.specs.OffRules.{TurnedOffTo}
+use Rattle.pending.specs.declared.PendingQueue.{PendingQueue}
+use Rattle.report.proofs.Lengths.{Short, state-short}
+use Rattle.report.specs.AnswerLines.{Printed}
+use Rattle.report.specs.StateLines.{prefixesText, routersText, addressesText, routesText, neighborsText, stateText}
+use Rattle.script.proofs.AnswerLaws.{poll-short, ra-short, change-short}
+use Rattle.script.specs.AnswerRules.{pollText, raText, changeText, sweepText}
+use Rattle.script.specs.CardRules.{DidCache, CachedTo, startCache, fillCache, sweepCache, removeCache, Did, did, onCache, cardOf, newCard, withCache, instant, upCard, polledCard, sixteen, pollCard, heardCard, raCard, leftCard, offCard, carryOut, messageFor, Fits, CarriedTo, listedText, Listed}
 use Rattle.script.specs.declared.card.Card.{Card}
 use Rattle.script.specs.declared.card.Carried.{Carried}
 use Rattle.script.specs.declared.neighbors.Cached.{Cached}
-use Rattle.script.specs.AnswerRules.{pollText, raText, changeText, sweepText}
-use Rattle.script.specs.CardRules.{DidCache, CachedTo, startCache, fillCache, sweepCache, removeCache, Did, did, onCache, cardOf, newCard, withCache, instant, upCard, polledCard, sixteen, pollCard, heardCard, raCard, leftCard, offCard, carryOut, messageFor, Fits, CarriedTo, listedText, Listed}
-use Rattle.script.proofs.AnswerLaws.{poll-short, ra-short, change-short}
+use Rattle.slaac.specs.OffRules.{TurnedOffTo}
+use Rattle.slaac.specs.PollRules.{PolledTo}
+use Rattle.slaac.specs.SlaacRules.{AdvertisedTo}
+use Rattle.slaac.specs.declared.Advertised.{Advertised}
+use Rattle.slaac.specs.declared.PolledAt.{PolledAt}
+use Rattle.slaac.specs.declared.TurnedOff.{TurnedOff}
+use Rattle.sweep.specs.SweepCalls.{SweptTo}
+use Rattle.sweep.specs.declared.Swept.{Swept}
+use Rattle.text.proofs.PlaceLaws.{put-as, put-none, chain}
+use Rattle.text.specs.Place.{Put}
+use Rattle.time.specs.ClockRules.{idle}
+use Rattle.time.specs.declared.Clock.{Clock}
+use Rattle.wire.specs.declared.ethernet.HardwareAddress.{HardwareAddress}
+use Rattle.wire.specs.declared.ipv6.Ipv6Addr.{Ipv6Addr}
 
 -- ---- the neighbours
 

@@ -1,21 +1,21 @@
 -- Laws of the course: what a line says, and that each leaves fewer that can still come. Assumes nothing.
 use Prim.Native.Nat.{ℕ, _+_, _-_, _≤_, _<_}
-use mathlib.Core.Path.{_≡_, refl, sym, ap, _∙_}
-use mathlib.Core.Bool.{Bool, true, false, cond}
-use mathlib.Core.List.{List, []}
-use native.Mathlib.Omega.{arith}
-use lib.ListN.{length}
-use lib.Dec.{eqb}
 use borrow.Author.Tests.{eqb-false, lt-ltb, le-ltb}
-use Rattle.text.specs.Fields.{fields}
-use Rattle.lines.specs.EventLines.{parsedBytes, ReadyEvent}
+use lib.Dec.{eqb}
+use lib.ListN.{length}
+use mathlib.Core.Bool.{Bool, true, false, cond}
+use mathlib.Core.List.{List}
+use mathlib.Core.Path.{_≡_, refl, ap}
+use native.Mathlib.Omega.{arith}
+use Rattle.lines.specs.EventLines.{parsedBytes}
 use Rattle.lines.specs.declared.event.Event.{Event as AnEvent}
-use Rattle.wire.specs.declared.ipv6.Ipv6Cidr.{Ipv6Cidr}
-use Rattle.script.specs.declared.course.Want.{Want}
-use Rattle.script.specs.declared.course.Want.the-variants.{Mac, Addresses, Address, Events, Event, Nothing, Failed}
-use Rattle.script.specs.declared.course.Said.{Said}
-use Rattle.script.specs.declared.course.Said.the-variants.{Bad, Mac as IsMac, Next, Static, Event as Happens}
 use Rattle.script.specs.CourseRules.{addressWant, eventWant, saidOf, saidIn, nextOf, rank, ReadySaid, SaidTo}
+use Rattle.script.specs.declared.course.Said.the-variants.{Bad, Static, Event as Happens}
+use Rattle.script.specs.declared.course.Said.{Said}
+use Rattle.script.specs.declared.course.Want.the-variants.{Address, Events, Event, Nothing, Failed}
+use Rattle.script.specs.declared.course.Want.{Want}
+use Rattle.text.specs.Fields.{fields}
+use Rattle.wire.specs.declared.ipv6.Ipv6Cidr.{Ipv6Cidr}
 
 address-by : (n : ℕ) (b : Bool) → eqb n 0 ≡ b → rank (cond b Events (Address (n - 1))) < 18446744073709551619 + n
 address-by n true e = omega arith

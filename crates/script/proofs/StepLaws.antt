@@ -1,32 +1,31 @@
 -- Laws of what a line does. Assumes nothing.
-use Prim.Native.Nat.{ℕ, _≤_, _<_}
-use mathlib.Core.Path.{_≡_, refl, sym, ap, _∙_}
-use mathlib.Core.List.{List, []}
-use native.Mathlib.Omega.{arith}
+use Prim.Native.Nat.{ℕ, _≤_}
 use lib.ListN.{length}
-use Rattle.text.specs.Fields.{fields}
-use Rattle.text.specs.Place.{Put}
-use Rattle.text.proofs.PlaceLaws.{put-as, put-none}
+use mathlib.Core.List.{List}
+use mathlib.Core.Path.{_≡_, refl, sym, ap, _∙_}
+use native.Mathlib.Omega.{arith}
+use Rattle.iface.specs.AddressRules.{addrsOf, addrCheck, addAddrBy, AddedTo}
+use Rattle.iface.specs.declared.Outcome.the-variants.{Refused, Done}
+use Rattle.iface.specs.declared.Outcome.{Outcome}
+use Rattle.iface.specs.declared.addr.Added.{Added}
+use Rattle.iface.specs.declared.addr.IfaceAddrs.{IfaceAddrs}
 use Rattle.lines.specs.EventLines.{parsedBytes}
 use Rattle.lines.specs.declared.event.Event.{Event as AnEvent}
-use Rattle.wire.specs.declared.ipv6.Ipv6Cidr.{Ipv6Cidr}
-use Rattle.wire.specs.declared.error.Refusal.{Refusal}
-use Rattle.iface.specs.declared.Outcome.{Outcome}
-use Rattle.iface.specs.declared.Outcome.the-variants.{Refused, Done}
-use Rattle.iface.specs.declared.addr.IfaceAddrs.{IfaceAddrs}
-use Rattle.iface.specs.declared.addr.Added.{Added}
-use Rattle.iface.specs.AddressRules.{addrsOf, addrCheck, addAddrBy, AddedTo}
+use Rattle.script.proofs.CardLaws.{heard, fits}
+use Rattle.script.specs.CardRules.{carryOut, messageFor, CarriedTo}
+use Rattle.script.specs.CourseRules.{nextOf, rank, ReadySaid, SaidTo}
+use Rattle.script.specs.StepRules.{Went, quietly, withAddrs, addedBy, added, addedCard, applyOf, room, stepOf, Applied, Stepped, messageIn, FitsSaid, StepTo}
+use Rattle.script.specs.declared.card.After.{After}
 use Rattle.script.specs.declared.card.Card.{Card}
 use Rattle.script.specs.declared.card.Carried.{Carried}
-use Rattle.script.specs.declared.card.After.{After}
-use Rattle.script.specs.declared.course.Want.{Want}
-use Rattle.script.specs.declared.course.Want.the-variants.{Failed}
-use Rattle.script.specs.declared.course.Said.{Said}
 use Rattle.script.specs.declared.course.Said.the-variants.{Bad, Mac, Next, Static, Event}
-use Rattle.script.specs.CardRules.{carryOut, messageFor, CarriedTo}
-use Rattle.script.specs.CourseRules.{saidIn, nextOf, rank, ReadySaid, SaidTo}
-use Rattle.script.specs.StepRules.{Went, quietly, withAddrs, addedBy, added, addedCard, applyOf, room, stepOf, Applied, Stepped, messageIn, FitsSaid, StepTo}
-use Rattle.script.proofs.CardLaws.{heard, fits}
+use Rattle.script.specs.declared.course.Said.{Said}
+use Rattle.script.specs.declared.course.Want.the-variants.{Failed}
+use Rattle.script.specs.declared.course.Want.{Want}
+use Rattle.text.proofs.PlaceLaws.{put-as, put-none}
+use Rattle.text.specs.Fields.{fields}
+use Rattle.wire.specs.declared.error.Refusal.{Refusal}
+use Rattle.wire.specs.declared.ipv6.Ipv6Cidr.{Ipv6Cidr}
 
 -- ---- an address of the header
 

@@ -3,11 +3,6 @@ use Rattle.report.specs.AnswerLines.{badLine}
 use Rattle.text.proofs.PlaceLaws.{chain}
 use Rattle.report.proofs.answer.bad_line.Statement.{statement}
 use Rattle.report.proofs.answer.bad_line.Tie as tie
-use Rattle.report.proofs.answer.bad_line.Reads as reads
-use Rattle.report.proofs.answer.bad_line.Lts as lts
-use Rattle.text.proofs.print.byte.Reads as byte-reads
-use Rattle.text.proofs.print.number.Reads as number-reads
-use Rattle.text.proofs.print.word.Reads as word-reads
 
 slice-aggregate-word : tie.Need-slice-aggregate-word
 slice-aggregate-word c = search needs

@@ -3,10 +3,6 @@ use Rattle.report.specs.AnswerLines.{offLine}
 use Rattle.text.proofs.PlaceLaws.{chain}
 use Rattle.report.proofs.answer.off.Statement.{statement}
 use Rattle.report.proofs.answer.off.Tie as tie
-use Rattle.report.proofs.answer.off.Reads as reads
-use Rattle.report.proofs.answer.off.Lts as lts
-use Rattle.text.proofs.print.number.Reads as number-reads
-use Rattle.text.proofs.print.word.Reads as word-reads
 
 number-requires : tie.Need-number-requires
 number-requires c κs = search needs

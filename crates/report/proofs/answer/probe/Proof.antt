@@ -1,15 +1,9 @@
-use mathlib.Core.Path.{sym, ap}
 use borrow.Author.Needs.{needs}
+use mathlib.Core.Path.{sym, ap}
 use Rattle.report.specs.AnswerLines.{probeLine}
 use Rattle.text.proofs.PlaceLaws.{chain, put-as}
 use Rattle.report.proofs.answer.probe.Statement.{statement}
 use Rattle.report.proofs.answer.probe.Tie as tie
-use Rattle.report.proofs.answer.probe.Reads as reads
-use Rattle.report.proofs.answer.probe.Lts as lts
-use Rattle.text.proofs.print.address.Reads as address-reads
-use Rattle.text.proofs.print.byte.Reads as byte-reads
-use Rattle.text.proofs.print.number.Reads as number-reads
-use Rattle.text.proofs.print.word.Reads as word-reads
 
 number-requires : tie.Need-number-requires
 number-requires c κs = search needs

@@ -1,20 +1,16 @@
 use Prim.Native.Nat.{_-_}
-use mathlib.Core.Path.{_≡_}
-use mathlib.Core.List.{[]}
 use borrow.Author.Needs.{needs}
 use lib.ListN.{length}
-use Rattle.table.proofs.Laws.{mapped}
-use Rattle.sweep.specs.SweepCalls.{blankEvent}
-use Rattle.report.specs.AnswerLines.{slotLine, probeLines}
-use Rattle.report.proofs.ListingLaws.{Listing, listing, list-next, listed-all, few}
+use mathlib.Core.List.{[]}
+use mathlib.Core.Path.{_≡_}
 use Rattle.report.proofs.Lengths.{probes-short}
+use Rattle.report.proofs.ListingLaws.{Listing, listing, list-next, listed-all, few}
+use Rattle.report.specs.AnswerLines.{slotLine, probeLines}
+use Rattle.sweep.specs.SweepCalls.{blankEvent}
+use Rattle.table.proofs.Laws.{mapped}
 use Rattle.text.proofs.PlaceLaws.{put-none}
 use Rattle.report.proofs.answer.probes.Statement.{statement}
 use Rattle.report.proofs.answer.probes.Tie as tie
-use Rattle.report.proofs.answer.probes.Reads as reads
-use Rattle.report.proofs.answer.probes.Lts as lts
-use Rattle.report.proofs.answer.probe.Reads as probe-reads
-use Rattle.table.proofs.count_of.Reads as count-of-reads
 
 abbrev Inv-loop : tie.InvT-loop
 Inv-loop out₀ at time events k next₀ i₀ out next i = Listing 16 (slotLine time) [] (events .slots) (events .len) k i out₀ next₀ next out

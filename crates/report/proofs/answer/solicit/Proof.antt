@@ -3,12 +3,6 @@ use Rattle.report.specs.AnswerLines.{solicitLine}
 use Rattle.text.proofs.PlaceLaws.{chain}
 use Rattle.report.proofs.answer.solicit.Statement.{statement}
 use Rattle.report.proofs.answer.solicit.Tie as tie
-use Rattle.report.proofs.answer.solicit.Reads as reads
-use Rattle.report.proofs.answer.solicit.Lts as lts
-use Rattle.text.proofs.print.byte.Reads as byte-reads
-use Rattle.text.proofs.print.hexes.Reads as hexes-reads
-use Rattle.text.proofs.print.number.Reads as number-reads
-use Rattle.text.proofs.print.word.Reads as word-reads
 
 number-requires : tie.Need-number-requires
 number-requires c κs = search needs

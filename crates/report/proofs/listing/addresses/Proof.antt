@@ -1,22 +1,16 @@
-use Rattle.iface.specs.AddressRules.{addrsOf}
 use Prim.Native.Nat.{_-_}
-use mathlib.Core.Path.{_≡_}
-use mathlib.Core.List.{[]}
 use borrow.Author.Needs.{needs}
 use lib.ListN.{length}
-use Rattle.table.proofs.Laws.{mapped}
-use Rattle.iface.specs.AddressRules.{noAddr}
-use Rattle.report.specs.StateLines.{headingLine, addressesWord, addrLine, addressesText}
-use Rattle.report.proofs.ListingLaws.{Listing, listing, list-next, listed-section, few}
+use mathlib.Core.List.{[]}
+use mathlib.Core.Path.{_≡_}
+use Rattle.iface.specs.AddressRules.{addrsOf, noAddr}
 use Rattle.report.proofs.Lengths.{addresses-short}
+use Rattle.report.proofs.ListingLaws.{Listing, listing, list-next, listed-section, few}
+use Rattle.report.specs.StateLines.{addressesWord, addrLine, addressesText}
+use Rattle.table.proofs.Laws.{mapped}
 use Rattle.text.proofs.PlaceLaws.{put-none}
 use Rattle.report.proofs.listing.addresses.Statement.{statement}
 use Rattle.report.proofs.listing.addresses.Tie as tie
-use Rattle.report.proofs.listing.addresses.Reads as reads
-use Rattle.report.proofs.listing.addresses.Lts as lts
-use Rattle.report.proofs.listing.addr_line.Reads as addr-line-reads
-use Rattle.report.proofs.listing.heading.Reads as heading-reads
-use Rattle.table.proofs.count_of.Reads as count-of-reads
 
 abbrev Inv-loop : tie.InvT-loop
 Inv-loop out₀ at addrs k next₀ i₀ out next i = Listing 8 addrLine [] (addrs .slots) (addrs .len) k i out₀ next₀ next out

@@ -3,11 +3,6 @@ use Rattle.report.specs.StateLines.{headingLine}
 use Rattle.text.proofs.PlaceLaws.{chain}
 use Rattle.report.proofs.listing.heading.Statement.{statement}
 use Rattle.report.proofs.listing.heading.Tie as tie
-use Rattle.report.proofs.listing.heading.Reads as reads
-use Rattle.report.proofs.listing.heading.Lts as lts
-use Rattle.text.proofs.print.byte.Reads as byte-reads
-use Rattle.text.proofs.print.number.Reads as number-reads
-use Rattle.text.proofs.print.word.Reads as word-reads
 
 word-requires : tie.Need-word-requires
 word-requires c κs = search needs

@@ -1,14 +1,9 @@
-use mathlib.Core.Path.{sym, ap}
 use borrow.Author.Needs.{needs}
+use mathlib.Core.Path.{sym, ap}
 use Rattle.report.specs.StateLines.{neighborField, hardwareField}
 use Rattle.text.proofs.PlaceLaws.{put-as, chain}
 use Rattle.report.proofs.listing.neighbor_fields.Statement.{statement}
 use Rattle.report.proofs.listing.neighbor_fields.Tie as tie
-use Rattle.report.proofs.listing.neighbor_fields.Reads as reads
-use Rattle.report.proofs.listing.neighbor_fields.Lts as lts
-use Rattle.report.proofs.listing.number_field.Reads as number-field-reads
-use Rattle.text.proofs.print.hardware.Reads as hardware-reads
-use Rattle.text.proofs.print.word.Reads as word-reads
 
 enum-told : tie.Need-enum-told
 enum-told c = search needs

@@ -3,11 +3,6 @@ use Rattle.report.specs.StateLines.{neighborLine, addressField}
 use Rattle.text.proofs.PlaceLaws.{chain}
 use Rattle.report.proofs.listing.neighbor_line.Statement.{statement}
 use Rattle.report.proofs.listing.neighbor_line.Tie as tie
-use Rattle.report.proofs.listing.neighbor_line.Reads as reads
-use Rattle.report.proofs.listing.neighbor_line.Lts as lts
-use Rattle.report.proofs.listing.neighbor_fields.Reads as neighbor-fields-reads
-use Rattle.text.proofs.print.address.Reads as address-reads
-use Rattle.text.proofs.print.byte.Reads as byte-reads
 
 address-requires : tie.Need-address-requires
 address-requires c κs = search needs

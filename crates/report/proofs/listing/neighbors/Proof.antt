@@ -1,22 +1,16 @@
-use Rattle.neighbor.specs.CacheCalls.{entries}
 use Prim.Native.Nat.{_-_}
-use mathlib.Core.Path.{_≡_}
-use mathlib.Core.List.{[]}
 use borrow.Author.Needs.{needs}
 use lib.ListN.{length}
-use Rattle.table.proofs.Laws.{mapped}
-use Rattle.neighbor.specs.CacheCalls.{blank}
-use Rattle.report.specs.StateLines.{headingLine, neighborsWord, neighborLine, neighborsText}
-use Rattle.report.proofs.ListingLaws.{Listing, listing, list-next, listed-section, few}
+use mathlib.Core.List.{[]}
+use mathlib.Core.Path.{_≡_}
+use Rattle.neighbor.specs.CacheCalls.{entries, blank}
 use Rattle.report.proofs.Lengths.{neighbors-short}
+use Rattle.report.proofs.ListingLaws.{Listing, listing, list-next, listed-section, few}
+use Rattle.report.specs.StateLines.{neighborsWord, neighborLine, neighborsText}
+use Rattle.table.proofs.Laws.{mapped}
 use Rattle.text.proofs.PlaceLaws.{put-none}
 use Rattle.report.proofs.listing.neighbors.Statement.{statement}
 use Rattle.report.proofs.listing.neighbors.Tie as tie
-use Rattle.report.proofs.listing.neighbors.Reads as reads
-use Rattle.report.proofs.listing.neighbors.Lts as lts
-use Rattle.report.proofs.listing.heading.Reads as heading-reads
-use Rattle.report.proofs.listing.neighbor_line.Reads as neighbor-line-reads
-use Rattle.table.proofs.count_of.Reads as count-of-reads
 
 abbrev Inv-loop : tie.InvT-loop
 Inv-loop out₀ at cache k next₀ i₀ out next i = Listing 16 neighborLine [] (cache .slots) (cache .len) k i out₀ next₀ next out

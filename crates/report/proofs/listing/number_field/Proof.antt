@@ -3,10 +3,6 @@ use Rattle.report.specs.StateLines.{numberField}
 use Rattle.text.proofs.PlaceLaws.{chain}
 use Rattle.report.proofs.listing.number_field.Statement.{statement}
 use Rattle.report.proofs.listing.number_field.Tie as tie
-use Rattle.report.proofs.listing.number_field.Reads as reads
-use Rattle.report.proofs.listing.number_field.Lts as lts
-use Rattle.text.proofs.print.byte.Reads as byte-reads
-use Rattle.text.proofs.print.number.Reads as number-reads
 
 byte-requires : tie.Need-byte-requires
 byte-requires c κs = search needs

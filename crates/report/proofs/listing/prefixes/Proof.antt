@@ -1,22 +1,16 @@
-use Rattle.learned.specs.LearnedRules.{prefixesOf}
 use Prim.Native.Nat.{_-_}
-use mathlib.Core.Path.{_≡_}
-use mathlib.Core.List.{[]}
 use borrow.Author.Needs.{needs}
 use lib.ListN.{length}
-use Rattle.table.proofs.Laws.{mapped}
-use Rattle.learned.specs.LearnedRules.{noPrefix}
-use Rattle.report.specs.StateLines.{headingLine, prefixesWord, prefixLine, prefixesText}
-use Rattle.report.proofs.ListingLaws.{Listing, listing, list-next, listed-section, few}
+use mathlib.Core.List.{[]}
+use mathlib.Core.Path.{_≡_}
+use Rattle.learned.specs.LearnedRules.{prefixesOf, noPrefix}
 use Rattle.report.proofs.Lengths.{prefixes-short}
+use Rattle.report.proofs.ListingLaws.{Listing, listing, list-next, listed-section, few}
+use Rattle.report.specs.StateLines.{prefixesWord, prefixLine, prefixesText}
+use Rattle.table.proofs.Laws.{mapped}
 use Rattle.text.proofs.PlaceLaws.{put-none}
 use Rattle.report.proofs.listing.prefixes.Statement.{statement}
 use Rattle.report.proofs.listing.prefixes.Tie as tie
-use Rattle.report.proofs.listing.prefixes.Reads as reads
-use Rattle.report.proofs.listing.prefixes.Lts as lts
-use Rattle.report.proofs.listing.heading.Reads as heading-reads
-use Rattle.report.proofs.listing.prefix_line.Reads as prefix-line-reads
-use Rattle.table.proofs.count_of.Reads as count-of-reads
 
 abbrev Inv-loop : tie.InvT-loop
 Inv-loop out₀ at slaac k next₀ i₀ out next i = Listing 4 prefixLine [] (slaac .prefixes) (slaac .«prefix_count») k i out₀ next₀ next out

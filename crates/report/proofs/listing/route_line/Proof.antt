@@ -3,12 +3,6 @@ use Rattle.report.specs.StateLines.{routeLine, addressField}
 use Rattle.text.proofs.PlaceLaws.{chain}
 use Rattle.report.proofs.listing.route_line.Statement.{statement}
 use Rattle.report.proofs.listing.route_line.Tie as tie
-use Rattle.report.proofs.listing.route_line.Reads as reads
-use Rattle.report.proofs.listing.route_line.Lts as lts
-use Rattle.report.proofs.listing.expiry_field.Reads as expiry-field-reads
-use Rattle.report.proofs.listing.route_origin_field.Reads as route-origin-field-reads
-use Rattle.text.proofs.print.address.Reads as address-reads
-use Rattle.text.proofs.print.byte.Reads as byte-reads
 
 address-requires : tie.Need-address-requires
 address-requires c κs = search needs

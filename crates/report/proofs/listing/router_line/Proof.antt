@@ -3,11 +3,6 @@ use Rattle.report.specs.StateLines.{routerLine, addressField}
 use Rattle.text.proofs.PlaceLaws.{chain}
 use Rattle.report.proofs.listing.router_line.Statement.{statement}
 use Rattle.report.proofs.listing.router_line.Tie as tie
-use Rattle.report.proofs.listing.router_line.Reads as reads
-use Rattle.report.proofs.listing.router_line.Lts as lts
-use Rattle.report.proofs.listing.number_field.Reads as number-field-reads
-use Rattle.text.proofs.print.address.Reads as address-reads
-use Rattle.text.proofs.print.byte.Reads as byte-reads
 
 address-requires : tie.Need-address-requires
 address-requires c κs = search needs

@@ -1,22 +1,16 @@
-use Rattle.learned.specs.LearnedRules.{routersOf}
 use Prim.Native.Nat.{_-_}
-use mathlib.Core.Path.{_≡_}
-use mathlib.Core.List.{[]}
 use borrow.Author.Needs.{needs}
 use lib.ListN.{length}
-use Rattle.table.proofs.Laws.{mapped}
-use Rattle.learned.specs.LearnedRules.{noRouter}
-use Rattle.report.specs.StateLines.{headingLine, routersWord, routerLine, routersText}
-use Rattle.report.proofs.ListingLaws.{Listing, listing, list-next, listed-section, few}
+use mathlib.Core.List.{[]}
+use mathlib.Core.Path.{_≡_}
+use Rattle.learned.specs.LearnedRules.{routersOf, noRouter}
 use Rattle.report.proofs.Lengths.{routers-short}
+use Rattle.report.proofs.ListingLaws.{Listing, listing, list-next, listed-section, few}
+use Rattle.report.specs.StateLines.{routersWord, routerLine, routersText}
+use Rattle.table.proofs.Laws.{mapped}
 use Rattle.text.proofs.PlaceLaws.{put-none}
 use Rattle.report.proofs.listing.routers.Statement.{statement}
 use Rattle.report.proofs.listing.routers.Tie as tie
-use Rattle.report.proofs.listing.routers.Reads as reads
-use Rattle.report.proofs.listing.routers.Lts as lts
-use Rattle.report.proofs.listing.heading.Reads as heading-reads
-use Rattle.report.proofs.listing.router_line.Reads as router-line-reads
-use Rattle.table.proofs.count_of.Reads as count-of-reads
 
 abbrev Inv-loop : tie.InvT-loop
 Inv-loop out₀ at slaac k next₀ i₀ out next i = Listing 2 routerLine [] (slaac .routers) (slaac .«router_count») k i out₀ next₀ next out

@@ -1,22 +1,16 @@
-use Rattle.iface.specs.RouteRules.{routesOf}
 use Prim.Native.Nat.{_-_}
-use mathlib.Core.Path.{_≡_}
-use mathlib.Core.List.{[]}
 use borrow.Author.Needs.{needs}
 use lib.ListN.{length}
-use Rattle.table.proofs.Laws.{mapped}
-use Rattle.iface.specs.RouteRules.{noRoute}
-use Rattle.report.specs.StateLines.{headingLine, routesWord, routeLine, routesText}
-use Rattle.report.proofs.ListingLaws.{Listing, listing, list-next, listed-section, few}
+use mathlib.Core.List.{[]}
+use mathlib.Core.Path.{_≡_}
+use Rattle.iface.specs.RouteRules.{routesOf, noRoute}
 use Rattle.report.proofs.Lengths.{routes-short}
+use Rattle.report.proofs.ListingLaws.{Listing, listing, list-next, listed-section, few}
+use Rattle.report.specs.StateLines.{routesWord, routeLine, routesText}
+use Rattle.table.proofs.Laws.{mapped}
 use Rattle.text.proofs.PlaceLaws.{put-none}
 use Rattle.report.proofs.listing.routes.Statement.{statement}
 use Rattle.report.proofs.listing.routes.Tie as tie
-use Rattle.report.proofs.listing.routes.Reads as reads
-use Rattle.report.proofs.listing.routes.Lts as lts
-use Rattle.report.proofs.listing.heading.Reads as heading-reads
-use Rattle.report.proofs.listing.route_line.Reads as route-line-reads
-use Rattle.table.proofs.count_of.Reads as count-of-reads
 
 abbrev Inv-loop : tie.InvT-loop
 Inv-loop out₀ at table k next₀ i₀ out next i = Listing 8 routeLine [] (table .slots) (table .len) k i out₀ next₀ next out

@@ -1,21 +1,12 @@
+use borrow.Author.Needs.{needs}
 use mathlib.Core.Path.{refl, sym, ap, _∙_}
 use native.Mathlib.Omega.{arith}
-use borrow.Author.Needs.{needs}
-use Rattle.script.specs.declared.course.Want.{Want}
-use Rattle.script.specs.declared.course.Want.the-variants.{Mac, Addresses, Address, Events, Event, Nothing}
-use Rattle.script.specs.declared.course.Said.the-variants.{Next, Static, Event as Happens}
-use Rattle.script.specs.CourseRules.{macSaid, addressesSaid, addressSaid, eventsSaid, eventSaid}
 use Rattle.script.proofs.CourseLaws.{too-long, says, over, address-falls, event-falls, as-rank, static-as, happens-as}
+use Rattle.script.specs.CourseRules.{macSaid, addressesSaid, addressSaid, eventsSaid, eventSaid}
+use Rattle.script.specs.declared.course.Said.the-variants.{Next}
+use Rattle.script.specs.declared.course.Want.the-variants.{Mac, Addresses, Address, Events, Event, Nothing}
 use Rattle.script.proofs.course.read_line.Statement.{statement}
 use Rattle.script.proofs.course.read_line.Tie as tie
-use Rattle.script.proofs.course.read_line.Reads as reads
-use Rattle.script.proofs.course.read_line.Lts as lts
-use Rattle.lines.proofs.event.parse_event.Reads as parse-event-reads
-use Rattle.lines.proofs.header.address_line.Reads as address-line-reads
-use Rattle.lines.proofs.header.counted.Reads as counted-reads
-use Rattle.lines.proofs.header.mac.Reads as mac-reads
-use Rattle.script.proofs.course.address_want.Reads as address-want-reads
-use Rattle.script.proofs.course.event_want.Reads as event-want-reads
 
 returns : tie.Need-returns
 returns c = too-long _ _ _ _ (c .if1 .taken)

@@ -2,10 +2,6 @@ use borrow.Author.Needs.{needs}
 use Rattle.script.proofs.CardLaws.{fill-done}
 use Rattle.script.proofs.neighbors.fill.Statement.{statement}
 use Rattle.script.proofs.neighbors.fill.Tie as tie
-use Rattle.script.proofs.neighbors.fill.Reads as reads
-use Rattle.script.proofs.neighbors.fill.Lts as lts
-use Rattle.neighbor.proofs.NeighborCache.fill.Reads as fill-reads
-use Rattle.script.proofs.said.change.Reads as change-reads
 
 fill-requires : tie.Need-fill-requires
 fill-requires c κs = search needs

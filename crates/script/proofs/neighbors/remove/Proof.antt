@@ -1,11 +1,8 @@
-use mathlib.Core.Path.{refl}
 use borrow.Author.Needs.{needs}
+use mathlib.Core.Path.{refl}
 use Rattle.script.proofs.CardLaws.{remove-done}
 use Rattle.script.proofs.neighbors.remove.Statement.{statement}
 use Rattle.script.proofs.neighbors.remove.Tie as tie
-use Rattle.script.proofs.neighbors.remove.Reads as reads
-use Rattle.script.proofs.neighbors.remove.Lts as lts
-use Rattle.neighbor.proofs.NeighborCache.remove.Reads as remove-reads
 
 remove-requires : tie.Need-remove-requires
 remove-requires c κs = search needs

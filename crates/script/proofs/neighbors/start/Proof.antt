@@ -2,10 +2,6 @@ use borrow.Author.Needs.{needs}
 use Rattle.script.proofs.CardLaws.{start-done}
 use Rattle.script.proofs.neighbors.start.Statement.{statement}
 use Rattle.script.proofs.neighbors.start.Tie as tie
-use Rattle.script.proofs.neighbors.start.Reads as reads
-use Rattle.script.proofs.neighbors.start.Lts as lts
-use Rattle.neighbor.proofs.NeighborCache.start_resolution.Reads as start-resolution-reads
-use Rattle.script.proofs.said.change.Reads as change-reads
 
 start-resolution-requires : tie.Need-start-resolution-requires
 start-resolution-requires c κs = search needs

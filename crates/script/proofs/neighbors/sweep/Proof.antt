@@ -2,11 +2,6 @@ use borrow.Author.Needs.{needs}
 use Rattle.script.proofs.CardLaws.{sweep-done}
 use Rattle.script.proofs.neighbors.sweep.Statement.{statement}
 use Rattle.script.proofs.neighbors.sweep.Tie as tie
-use Rattle.script.proofs.neighbors.sweep.Reads as reads
-use Rattle.script.proofs.neighbors.sweep.Lts as lts
-use Rattle.script.proofs.said.sweep.Reads as sweep-reads
-use Rattle.sweep.proofs.sweep_at.Reads as sweep-at-reads
-use Rattle.time.proofs.Clock.new.Reads as new-reads
 
 new-requires : tie.Need-new-requires
 new-requires c κs = search needs

@@ -1,14 +1,10 @@
-use mathlib.Core.Path.{sym, ap}
 use borrow.Author.Needs.{needs}
-use Rattle.script.specs.AnswerRules.{changeText}
+use mathlib.Core.Path.{sym, ap}
 use Rattle.script.proofs.AnswerLaws.{refusal}
+use Rattle.script.specs.AnswerRules.{changeText}
 use Rattle.text.proofs.PlaceLaws.{put-as, put-none}
 use Rattle.script.proofs.said.change.Statement.{statement}
 use Rattle.script.proofs.said.change.Tie as tie
-use Rattle.script.proofs.said.change.Reads as reads
-use Rattle.script.proofs.said.change.Lts as lts
-use Rattle.report.proofs.answer.refused.Reads as refused-reads
-use Rattle.wire.proofs.error.Refusal.number.Reads as number-reads
 
 enum-known-said : tie.Need-enum-known-said
 enum-known-said c = search needs

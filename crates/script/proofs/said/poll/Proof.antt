@@ -1,17 +1,11 @@
-use mathlib.Core.Path.{sym, ap}
 use borrow.Author.Needs.{needs}
-use Rattle.slaac.specs.declared.PollAnswer.{PollAnswer}
-use Rattle.script.specs.AnswerRules.{pollText}
+use mathlib.Core.Path.{sym, ap}
 use Rattle.script.proofs.AnswerLaws.{refusal}
+use Rattle.script.specs.AnswerRules.{pollText}
+use Rattle.slaac.specs.declared.PollAnswer.{PollAnswer}
 use Rattle.text.proofs.PlaceLaws.{put-as, put-none}
 use Rattle.script.proofs.said.poll.Statement.{statement}
 use Rattle.script.proofs.said.poll.Tie as tie
-use Rattle.script.proofs.said.poll.Reads as reads
-use Rattle.script.proofs.said.poll.Lts as lts
-use Rattle.report.proofs.answer.off.Reads as off-reads
-use Rattle.report.proofs.answer.refused.Reads as refused-reads
-use Rattle.report.proofs.answer.solicit.Reads as solicit-reads
-use Rattle.wire.proofs.error.Refusal.number.Reads as number-reads
 
 enum-known-said : tie.Need-enum-known-said
 enum-known-said c = search needs

@@ -1,15 +1,10 @@
-use mathlib.Core.Path.{sym, ap}
 use borrow.Author.Needs.{needs}
-use Rattle.script.specs.AnswerRules.{raText}
+use mathlib.Core.Path.{sym, ap}
 use Rattle.script.proofs.AnswerLaws.{refusal}
+use Rattle.script.specs.AnswerRules.{raText}
 use Rattle.text.proofs.PlaceLaws.{put-as, put-none}
 use Rattle.script.proofs.said.ra.Statement.{statement}
 use Rattle.script.proofs.said.ra.Tie as tie
-use Rattle.script.proofs.said.ra.Reads as reads
-use Rattle.script.proofs.said.ra.Lts as lts
-use Rattle.report.proofs.answer.off.Reads as off-reads
-use Rattle.report.proofs.answer.refused.Reads as refused-reads
-use Rattle.wire.proofs.error.Refusal.number.Reads as number-reads
 
 enum-known-said : tie.Need-enum-known-said
 enum-known-said c = search needs

@@ -1,15 +1,10 @@
-use mathlib.Core.Path.{sym, ap}
 use borrow.Author.Needs.{needs}
+use mathlib.Core.Path.{sym, ap}
 use Rattle.neighbor.specs.declared.Outcome.{Outcome}
-use Rattle.script.specs.AnswerRules.{sweepText}
 use Rattle.script.proofs.AnswerLaws.{sweep-refused, printed-as}
+use Rattle.script.specs.AnswerRules.{sweepText}
 use Rattle.script.proofs.said.sweep.Statement.{statement}
 use Rattle.script.proofs.said.sweep.Tie as tie
-use Rattle.script.proofs.said.sweep.Reads as reads
-use Rattle.script.proofs.said.sweep.Lts as lts
-use Rattle.report.proofs.answer.probes.Reads as probes-reads
-use Rattle.report.proofs.answer.refused.Reads as refused-reads
-use Rattle.wire.proofs.error.Refusal.number.Reads as number-reads
 
 enum-known-said : tie.Need-enum-known-said
 enum-known-said c = search needs

@@ -2,9 +2,6 @@ use borrow.Author.Needs.{needs}
 use Rattle.script.proofs.StepLaws.{address-refused, address-done}
 use Rattle.script.proofs.card.Card.add_address.Statement.{statement}
 use Rattle.script.proofs.card.Card.add_address.Tie as tie
-use Rattle.script.proofs.card.Card.add_address.Reads as reads
-use Rattle.script.proofs.card.Card.add_address.Lts as lts
-use Rattle.iface.proofs.addr.IfaceAddrs.add_ip_addr.Reads as add-ip-addr-reads
 
 add-ip-addr-requires : tie.Need-add-ip-addr-requires
 add-ip-addr-requires c κs = search needs

@@ -1,13 +1,9 @@
-use mathlib.Core.Path.{refl}
 use borrow.Author.Needs.{needs}
-use Rattle.script.specs.declared.course.Said.the-variants.{Bad, Mac, Next}
+use mathlib.Core.Path.{refl}
 use Rattle.script.proofs.StepLaws.{still, of-address, of-event, event-fits}
+use Rattle.script.specs.declared.course.Said.the-variants.{Bad, Mac, Next}
 use Rattle.script.proofs.card.Card.apply.Statement.{statement}
 use Rattle.script.proofs.card.Card.apply.Tie as tie
-use Rattle.script.proofs.card.Card.apply.Reads as reads
-use Rattle.script.proofs.card.Card.apply.Lts as lts
-use Rattle.script.proofs.card.Card.add_address.Reads as add-address-reads
-use Rattle.script.proofs.card.Card.carry_out.Reads as carry-out-reads
 
 enum-told : tie.Need-enum-told
 enum-told c = search needs

@@ -1,20 +1,9 @@
-use mathlib.Core.Path.{refl}
 use borrow.Author.Needs.{needs}
-use Rattle.lines.specs.declared.event.Event.the-variants.{Up, Down, Poll, Sweep, Off, Ra, Start, Fill, Remove}
+use mathlib.Core.Path.{refl}
+use Rattle.lines.specs.declared.event.Event.the-variants.{Up, Down, Poll, Sweep, Off, Ra, Start, Fill}
 use Rattle.script.proofs.CardLaws.{ra-part, quiet, at-event, at-cache, at-remove}
 use Rattle.script.proofs.card.Card.carry_out.Statement.{statement}
 use Rattle.script.proofs.card.Card.carry_out.Tie as tie
-use Rattle.script.proofs.card.Card.carry_out.Reads as reads
-use Rattle.script.proofs.card.Card.carry_out.Lts as lts
-use Rattle.script.proofs.card.Card.link_up.Reads as link-up-reads
-use Rattle.script.proofs.card.Card.off.Reads as off-reads
-use Rattle.script.proofs.card.Card.poll.Reads as poll-reads
-use Rattle.script.proofs.card.Card.ra.Reads as ra-reads
-use Rattle.script.proofs.card.Card.with_cache.Reads as with-cache-reads
-use Rattle.script.proofs.neighbors.fill.Reads as fill-reads
-use Rattle.script.proofs.neighbors.remove.Reads as remove-reads
-use Rattle.script.proofs.neighbors.start.Reads as start-reads
-use Rattle.script.proofs.neighbors.sweep.Reads as sweep-reads
 
 enum-told : tie.Need-enum-told
 enum-told c = search needs

@@ -2,9 +2,6 @@ use borrow.Author.Needs.{needs}
 use Rattle.script.proofs.CardLaws.{up-card}
 use Rattle.script.proofs.card.Card.link_up.Statement.{statement}
 use Rattle.script.proofs.card.Card.link_up.Tie as tie
-use Rattle.script.proofs.card.Card.link_up.Reads as reads
-use Rattle.script.proofs.card.Card.link_up.Lts as lts
-use Rattle.learned.proofs.Slaac.restart.Reads as restart-reads
 
 restart-requires : tie.Need-restart-requires
 restart-requires c κs = search needs

@@ -2,13 +2,6 @@ use borrow.Author.Needs.{needs}
 use Rattle.script.proofs.CardLaws.{listed}
 use Rattle.script.proofs.card.Card.list.Statement.{statement}
 use Rattle.script.proofs.card.Card.list.Tie as tie
-use Rattle.script.proofs.card.Card.list.Reads as reads
-use Rattle.script.proofs.card.Card.list.Lts as lts
-use Rattle.report.proofs.listing.addresses.Reads as addresses-reads
-use Rattle.report.proofs.listing.neighbors.Reads as neighbors-reads
-use Rattle.report.proofs.listing.prefixes.Reads as prefixes-reads
-use Rattle.report.proofs.listing.routers.Reads as routers-reads
-use Rattle.report.proofs.listing.routes.Reads as routes-reads
 
 prefixes-requires : tie.Need-prefixes-requires
 prefixes-requires c κs = search needs

@@ -2,12 +2,6 @@ use borrow.Author.Needs.{needs}
 use Rattle.script.proofs.CardLaws.{new-card}
 use Rattle.script.proofs.card.Card.new.Statement.{statement}
 use Rattle.script.proofs.card.Card.new.Tie as tie
-use Rattle.script.proofs.card.Card.new.Reads as reads
-use Rattle.script.proofs.card.Card.new.Lts as lts
-use Rattle.iface.proofs.addr.IfaceAddrs.new.Reads as addr-IfaceAddrs-new-reads
-use Rattle.iface.proofs.route.Routes.new.Reads as route-Routes-new-reads
-use Rattle.learned.proofs.Slaac.new.Reads as Slaac-new-reads
-use Rattle.neighbor.proofs.NeighborCache.new.Reads as NeighborCache-new-reads
 
 new-requires : tie.Need-new-requires
 new-requires c κs = search needs

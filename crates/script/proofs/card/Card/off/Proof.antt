@@ -2,10 +2,6 @@ use borrow.Author.Needs.{needs}
 use Rattle.script.proofs.CardLaws.{off-card}
 use Rattle.script.proofs.card.Card.off.Statement.{statement}
 use Rattle.script.proofs.card.Card.off.Tie as tie
-use Rattle.script.proofs.card.Card.off.Reads as reads
-use Rattle.script.proofs.card.Card.off.Lts as lts
-use Rattle.pending.proofs.PendingQueue.new.Reads as new-reads
-use Rattle.slaac.proofs.turn_off.Reads as turn-off-reads
 
 new-requires : tie.Need-new-requires
 new-requires c κs = search needs

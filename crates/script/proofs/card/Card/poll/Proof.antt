@@ -2,11 +2,6 @@ use borrow.Author.Needs.{needs}
 use Rattle.script.proofs.CardLaws.{poll-done}
 use Rattle.script.proofs.card.Card.poll.Statement.{statement}
 use Rattle.script.proofs.card.Card.poll.Tie as tie
-use Rattle.script.proofs.card.Card.poll.Reads as reads
-use Rattle.script.proofs.card.Card.poll.Lts as lts
-use Rattle.script.proofs.said.poll.Reads as poll-reads
-use Rattle.slaac.proofs.poll_at.Reads as poll-at-reads
-use Rattle.time.proofs.Clock.new.Reads as new-reads
 
 slice-aggregate-poll-at : tie.Need-slice-aggregate-poll-at
 slice-aggregate-poll-at c = search needs

@@ -2,10 +2,6 @@ use borrow.Author.Needs.{needs}
 use Rattle.script.proofs.CardLaws.{ra-done}
 use Rattle.script.proofs.card.Card.ra.Statement.{statement}
 use Rattle.script.proofs.card.Card.ra.Tie as tie
-use Rattle.script.proofs.card.Card.ra.Reads as reads
-use Rattle.script.proofs.card.Card.ra.Lts as lts
-use Rattle.script.proofs.said.ra.Reads as ra-reads
-use Rattle.slaac.proofs.process_advertisement.Reads as process-advertisement-reads
 
 process-advertisement-requires : tie.Need-process-advertisement-requires
 process-advertisement-requires c κs = search needs

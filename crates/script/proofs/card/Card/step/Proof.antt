@@ -1,12 +1,8 @@
-use mathlib.Core.Path.{refl}
 use borrow.Author.Needs.{needs}
+use mathlib.Core.Path.{refl}
 use Rattle.script.proofs.StepLaws.{line-fits, step-done}
 use Rattle.script.proofs.card.Card.step.Statement.{statement}
 use Rattle.script.proofs.card.Card.step.Tie as tie
-use Rattle.script.proofs.card.Card.step.Reads as reads
-use Rattle.script.proofs.card.Card.step.Lts as lts
-use Rattle.script.proofs.card.Card.apply.Reads as apply-reads
-use Rattle.script.proofs.course.read_line.Reads as read-line-reads
 
 slice-aggregate-read-line : tie.Need-slice-aggregate-read-line
 slice-aggregate-read-line c = search needs
