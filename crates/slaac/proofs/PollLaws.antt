@@ -10,7 +10,7 @@ use Rattle.iface.specs.declared.addr.IfaceAddrs.{IfaceAddrs}
 use Rattle.iface.specs.declared.addr.Source.the-variants.{Nothing, From}
 use Rattle.iface.specs.declared.addr.Source.{Source}
 use Rattle.iface.specs.declared.route.Routes.{Routes}
-use Rattle.learned.specs.DiscoveryRules.{solicitation}
+use Rattle.learned.specs.DiscoveryRules.{solicitation, withDiscovery}
 use Rattle.learned.specs.ExpiryRules.{syncDue, leaveExpired}
 use Rattle.learned.specs.declared.Discovery.{Discovery}
 use Rattle.learned.specs.declared.Slaac.{Slaac}
@@ -100,21 +100,26 @@ nowhere false source e = refl
 pub somewhere : (up : Bool) (source : Source) (a : Ipv6Addr) → up ≡ true → source ≡ From a → senderOf up source ≡ From a
 somewhere up source a e f = simp e f
 
--- The sync's turn
+-- The sync's turn: whether it is due is asked before the turn's discovery is stored, and does not look at it
 
-module _ (s : Slaac) (t : IfaceAddrs) (r : Routes) (iface : ℕ) (hw : HardwareAddress) (now : Instant) (k : Clock) (a : PollAnswer) (x : Answer)
-    (e : x ≡ syncDue s k) where
-  answered : (b : Bool) → x .expired ≡ b → syncDue s k .expired ≡ b
-  answered b h = ap (λ (z : Answer). z .expired) (sym e) ∙ h
+module _ (s : Slaac) (d : Discovery) (t : IfaceAddrs) (r : Routes) (iface : ℕ) (hw : HardwareAddress) (now : Instant) (k : Clock) (a : PollAnswer)
+    (x : Answer) (e : x ≡ syncDue s k) where
+  asked : x ≡ syncDue (withDiscovery s d) k
+  unfolding syncDue
+  asked = e
 
-  pub sync-due : (s′ : Slaac) (t′ : IfaceAddrs) (r′ : Routes) → x .expired ≡ true → s′ ≡ leaveExpired now s → t′ ≡ syncAddrs hw now t s
-      → r′ ≡ syncRoutes iface now r s → polled s′ t′ r′ (x .clock) a ≡ syncTurn s t r iface hw now k a
+  answered : (b : Bool) → x .expired ≡ b → syncDue (withDiscovery s d) k .expired ≡ b
+  answered b h = ap (λ (z : Answer). z .expired) (sym asked) ∙ h
+
+  pub sync-due : (s′ : Slaac) (t′ : IfaceAddrs) (r′ : Routes) → x .expired ≡ true → s′ ≡ leaveExpired now (withDiscovery s d)
+      → t′ ≡ syncAddrs hw now t (withDiscovery s d) → r′ ≡ syncRoutes iface now r (withDiscovery s d)
+      → polled s′ t′ r′ (x .clock) a ≡ syncTurn (withDiscovery s d) t r iface hw now k a
   unfolding syncTurn
-  sync-due s′ t′ r′ h f g l = simp (answered true h) (λ i. polled (f i) (g i) (l i) (e i .clock) a)
+  sync-due s′ t′ r′ h f g l = simp (answered true h) (λ i. polled (f i) (g i) (l i) (asked i .clock) a)
 
-  pub sync-idle : x .expired ≡ false → polled s t r (x .clock) a ≡ syncTurn s t r iface hw now k a
+  pub sync-idle : x .expired ≡ false → polled (withDiscovery s d) t r (x .clock) a ≡ syncTurn (withDiscovery s d) t r iface hw now k a
   unfolding syncTurn
-  sync-idle h = simp (answered false h) (ap (λ (z : Answer). polled s t r (z .clock) a) e)
+  sync-idle h = simp (answered false h) (ap (λ (z : Answer). polled (withDiscovery s d) t r (z .clock) a) asked)
 
 -- The poll
 

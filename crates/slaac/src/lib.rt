@@ -307,11 +307,11 @@ pub fn poll_at(
     let t = ndisc_rs_egress(d, up, source, hardware_addr, buf, clock);
     let e = t.discovery;
     let w = t.answer;
+    let k = t.clock;
+    let x = slaac.is_sync_due(k);
+    let c = x.clock;
     let mut s = slaac;
     s.discovery = e;
-    let k = t.clock;
-    let x = s.is_sync_due(k);
-    let c = x.clock;
     if x.expired {
         // Addresses come and go without touching the neighbours: the router that advertised the prefix has just been
         // entered there.

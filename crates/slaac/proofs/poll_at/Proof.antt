@@ -45,7 +45,7 @@ returns-3 : tie.Need-returns-3
 returns-3 c = let a = c .before .before .before .before .before .before .before .before .before .before .before .before .before .before .before .before .before .before .before .before .before .args in
     poll-on (a .slaac) (a .addrs) (a .routes) (a .iface) (a .up) (a .hardware-addr) (a .buf .now) (a .clock) (sym (c .before .before .before .before .before .before .before .before .before .before .before .before .before .before .before .before .before .before .check-time .ensures) ∙ c .before .before .before .before .before .before .before .before .before .before .before .before .before .before .before .before .enum-told .given .1)
     _ _ _ _ (not-false (c .before .before .before .before .before .before .before .before .before .before .before .before .before .before .before .before .before .before .before .before .before .args .slaac .on) (c .before .before .before .before .before .before .before .before .before .before .before .before .before .before .if1 .left)) (c .before .before .before .before .before .before .before .before .before .before .before .before .before .link-local-ipv6-address .ensures) (c .before .before .before .before .before .before .before .before .before .before .ndisc-rs-egress .ensures) refl
-    (sync-due _ _ _ _ _ _ _ _ _ (c .before .before .before .before .before .is-sync-due .ensures) _ _ _ (c .before .before .before .if2 .taken) (c .update-slaac-state .ensures) (c .before .before .sync-addrs .ensures) (c .before .sync-routes .ensures))
+    (sync-due (a .slaac) (c .before .before .before .before .before .before .before .before .before .before .ndisc-rs-egress .result .discovery) _ _ _ _ _ _ _ _ (c .before .before .before .before .before .is-sync-due .ensures) _ _ _ (c .before .before .before .if2 .taken) (c .update-slaac-state .ensures) (c .before .before .sync-addrs .ensures) (c .before .sync-routes .ensures))
 
 same-length-2 : tie.Need-same-length-2
 same-length-2 c = search needs
@@ -54,7 +54,7 @@ returns-4 : tie.Need-returns-4
 returns-4 c = let a = c .before .before .before .before .before .before .before .before .before .before .before .before .before .before .before .before .before .before .args in
     poll-on (a .slaac) (a .addrs) (a .routes) (a .iface) (a .up) (a .hardware-addr) (a .buf .now) (a .clock) (sym (c .before .before .before .before .before .before .before .before .before .before .before .before .before .before .before .check-time .ensures) ∙ c .before .before .before .before .before .before .before .before .before .before .before .before .before .enum-told .given .1)
     _ _ _ _ (not-false (c .before .before .before .before .before .before .before .before .before .before .before .before .before .before .before .before .before .before .args .slaac .on) (c .before .before .before .before .before .before .before .before .before .before .before .if1 .left)) (c .before .before .before .before .before .before .before .before .before .before .link-local-ipv6-address .ensures) (c .before .before .before .before .before .before .before .ndisc-rs-egress .ensures) refl
-    (sync-idle _ _ _ _ _ _ _ _ _ (c .before .before .is-sync-due .ensures) (c .if2 .left))
+    (sync-idle (a .slaac) (c .before .before .before .before .before .before .before .ndisc-rs-egress .result .discovery) _ _ _ _ _ _ _ _ (c .before .before .is-sync-due .ensures) (c .if2 .left))
 
 pub poll-at-spec : {M : Type 1} → statement M
 poll-at-spec =
