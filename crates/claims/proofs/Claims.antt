@@ -6,6 +6,7 @@ use Rattle.claims.proofs.Early.{not-early}
 use Rattle.claims.proofs.Examples.{examples}
 use Rattle.claims.proofs.Lasting.{lasting}
 use Rattle.claims.proofs.Places.{places}
+use Rattle.claims.proofs.RoundTrips.{round-trips}
 use Rattle.claims.proofs.Traces.{traces}
 use Rattle.claims.specs.Claims.{Claims}
 
@@ -19,4 +20,5 @@ claims = record {
   not-early = not-early;
   lasting = lasting;
   examples = examples;
+  round-trips = round-trips;
 }

@@ -14,3 +14,4 @@ pub mod Standing
 pub mod Early
 pub mod Examples
 pub mod Lasting
+pub mod RoundTrips

@@ -7,6 +7,7 @@ use Rattle.claims.specs.Clocks.{Clocks}
 use Rattle.claims.specs.Early.{NotEarly}
 use Rattle.claims.specs.Examples.{Examples}
 use Rattle.claims.specs.Lasting.{Lasting}
+use Rattle.claims.specs.RoundTrips.{RoundTrips}
 
 pub record Claims : Type 1 where
   -- Traffic for other addresses cannot hold a resolution back, short of evicting it: demand 3, sentence by sentence, over any calls.
@@ -25,3 +26,5 @@ pub record Claims : Type 1 where
   pub lasting : Lasting
   -- Document 01's worked examples.
   pub examples : Examples
+  -- What is written or printed reads back as it was, and nothing beside it changes.
+  pub round-trips : RoundTrips

@@ -9,3 +9,4 @@ pub mod Clocks
 pub mod Early
 pub mod Examples
 pub mod Lasting
+pub mod RoundTrips

@@ -12,6 +12,7 @@ use native.Mathlib.Omega.{arith}
 use Rattle.text.proofs.PlaceLaws.{chain, put-as}
 use Rattle.text.specs.Hex.{nibbleOf, unhexed, Unhexed, glyphOf, hexed}
 use Rattle.text.specs.Place.{Put}
+use Rattle.wire.specs.RoundTrips.{Bytes}
 
 -- what agrees from a place on agrees from a later one on
 later : (l m : List ℕ) (n d : ℕ) → drop n l ≡ drop n m → drop (n + d) l ≡ drop (n + d) m
@@ -128,10 +129,6 @@ below-by d false e h =
 
 below : (d : ℕ) → d < 16 → nibbleOf (glyphOf d) ≡ d
 below d h = below-by d (ltb d 10) refl h
-
-abbrev pub Bytes : List ℕ → Type 0
-Bytes [] = Unit {0}
-Bytes (b ∷ bs) = (b < 256) × Bytes bs
 
 pub read-back : (bs : List ℕ) → Bytes bs → unhexed (hexed bs) ≡ bs
 read-back [] w = refl

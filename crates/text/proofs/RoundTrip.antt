@@ -8,7 +8,7 @@ use mathlib.Core.List.{List, [], _∷_, _++_}
 use mathlib.Core.Path.{_≡_, refl, ap}
 use native.Mathlib.Omega.{arith}
 use Rattle.text.proofs.DecimalLaws.{decimal-back}
-use Rattle.text.proofs.HexLaws.{Bytes as AllBytes, read-back, hexed-length}
+use Rattle.text.proofs.HexLaws.{read-back, hexed-length}
 use Rattle.text.specs.Addresses.{addressOf, hardwareOf, messageOf}
 use Rattle.text.specs.Decimal.{digitOf, allDigits, numberOf, decimalBy, decimal}
 use Rattle.text.specs.Fields.{fields, indexOf}
@@ -20,6 +20,7 @@ use Rattle.text.specs.declared.number.Number.the-variants.{Value as Num,
 use Rattle.wire.proofs.RoundTrip.{address-back, hardware-back}
 use Rattle.wire.specs.Rfc2464.{hardwareBytes}
 use Rattle.wire.specs.Rfc4291.{addressBytes}
+use Rattle.wire.specs.RoundTrips.{Bytes as AllBytes}
 use Rattle.wire.specs.declared.ethernet.HardwareAddress.{HardwareAddress}
 use Rattle.wire.specs.declared.ipv6.Ipv6Addr.{Ipv6Addr}
 
