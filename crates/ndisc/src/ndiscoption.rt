@@ -296,13 +296,10 @@ pub fn check_options(msg: &[u8], from: usize) -> Walk
         if msg.len() <= at {
             break Walk::Clean;
         }
-        match check_option(&msg[at..]) {
-            Checked::Refused(_) => {
-                break Walk::MalformedAt(at);
-            }
-            Checked::Well { option: _, units } => {
-                at += 8 * units;
-            }
+        let n = units(&msg[at..]);
+        if n == 0 {
+            break Walk::MalformedAt(at);
         }
+        at += 8 * n;
     }
 }
