@@ -39,8 +39,9 @@ use Rattle.sweep.specs.declared.ProbeEvent.{ProbeEvent}
 use Rattle.sweep.specs.declared.EventSlot.{EventSlot}
 use Rattle.sweep.specs.declared.Events.{Events}
 use Rattle.sweep.specs.declared.Swept.{Swept}
-use Rattle.sweep.specs.declared.Reported.{Reported}
-use Rattle.sweep.specs.SweepCalls.{SweptTo, ReportedTo}
+use Rattle.sweep.specs.SweepCalls.{SweptTo}
+use Rattle.lent.specs.declared.Reported.{Reported}
+use Rattle.lent.specs.LentRules.{ReportedTo}
 use Rattle.claims.specs.Calls.{Call, lookup, start, fill, insert, get, at, remove, clear, sweep, advertise, turnOff, Heard, silence, address, next, Answer, refused, done, looked, got, swept, apart, answer, answers, tableAfter}
 use Rattle.claims.specs.Watch.{gone, reportsAll, toldRun}
 

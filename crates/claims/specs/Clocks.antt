@@ -7,8 +7,9 @@ use Rattle.time.specs.declared.Clock.{Clock}
 use Rattle.time.specs.Forward.{Forward}
 use Rattle.neighbor.specs.declared.NeighborCache.{NeighborCache}
 use Rattle.sweep.specs.declared.Swept.{Swept}
-use Rattle.sweep.specs.declared.Reported.{Reported}
-use Rattle.sweep.specs.SweepCalls.{SweptTo, ReportedTo}
+use Rattle.sweep.specs.SweepCalls.{SweptTo}
+use Rattle.lent.specs.declared.Reported.{Reported}
+use Rattle.lent.specs.LentRules.{ReportedTo}
 use Rattle.wire.specs.declared.ethernet.HardwareAddress.{HardwareAddress}
 use Rattle.iface.specs.declared.addr.IfaceAddrs.{IfaceAddrs}
 use Rattle.iface.specs.declared.route.Routes.{Routes}

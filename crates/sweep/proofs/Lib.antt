@@ -3,4 +3,3 @@ pub mod ProbeLaws
 pub mod SweepLaws
 pub mod TimerLaws
 pub mod Entries
-pub mod Examples

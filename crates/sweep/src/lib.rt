@@ -1,6 +1,6 @@
 // A sweep of an interface: one expiry pass over the whole cache, then the interface's probe events.
 ghost use mathlib.Core.Path.{_≡_};
-ghost use Rattle.sweep.specs.SweepCalls.{SweptTo, ReportedTo};
+ghost use Rattle.sweep.specs.SweepCalls.{SweptTo};
 ghost use Rattle.sweep.specs.SweepParts.{ExpiryTo, timerOf};
 ghost use Rattle.sweep.specs.SweepRules.{expireClockState};
 use neighbor::Entry;
@@ -33,13 +33,6 @@ pub struct Events {
 pub struct Swept {
     pub cache: NeighborCache,
     pub clock: Clock,
-    pub events: Events,
-    pub outcome: Outcome,
-}
-
-// A sweep whose clock was lent.
-pub struct Reported {
-    pub cache: NeighborCache,
     pub events: Events,
     pub outcome: Outcome,
 }
@@ -259,18 +252,5 @@ pub fn sweep_at(cache: NeighborCache, clock: Clock, iface: u8) -> Swept
             len: count,
         },
         outcome: Outcome::Done,
-    }
-}
-
-// The sweep at the lent clock's now, which brings the clock's deadline forward.
-pub fn sweep(cache: NeighborCache, clock: &mut Clock, iface: u8) -> Reported
-    ensures { λ r. ⌜ ReportedTo cache (now (clock .entry)) iface r (now (clock .exit)) ⌝ }
-{
-    let s = sweep_at(cache, *clock, iface);
-    *clock = s.clock;
-    Reported {
-        cache: s.cache,
-        events: s.events,
-        outcome: s.outcome,
     }
 }

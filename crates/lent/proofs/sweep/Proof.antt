@@ -1,4 +1,4 @@
--- `sweep::sweep` meets its contract: a walk of its MIR, by hand. All that it knows of `sweep_at` is that each meets its contract. Written by tools/walk.py.
+-- `lent::sweep` meets its contract: a walk of its MIR, by hand. All that it knows of `sweep_at` is that each meets its contract. Written by tools/walk.py.
 -- Assumes nothing.
 use mathlib.Core.Path.{_≡_, refl, ap, sym, subst}
 use Prim.Native.Nat.{ℕ}
@@ -42,34 +42,35 @@ use denote.Triple.Spec.{Meets, tripleOf}
 use denote.Triple.Table.{entered, cited}
 use denote.Triple.Walked.{says, Stays, stay-ref, stay-none, walkOf, AllGo, goes-none, goes-ref, Walks, ends-at, walked, walk-meets}
 use denote.Exit.{yes}
-use Rattle.sweep.specs.SweepCalls.{SweptTo, ReportedTo}
-use Rattle.sweep.proofs.SweepLaws.{reported}
+use Rattle.sweep.specs.SweepCalls.{SweptTo}
+use Rattle.lent.specs.LentRules.{ReportedTo}
+use Rattle.lent.proofs.LentLaws.{reported}
 use Rattle.time.specs.declared.Clock.{Clock}
 use Rattle.time.proofs.Clock as row-Clock
 use Rattle.time.proofs.Clock.Laws as laws-Clock
 use Rattle.sweep.specs.declared.Events.{Events}
 use Rattle.sweep.proofs.Events as row-Events
 use Rattle.sweep.proofs.Events.Laws as laws-Events
 use Rattle.neighbor.specs.declared.NeighborCache.{NeighborCache}
 use Rattle.neighbor.proofs.NeighborCache as row-NeighborCache
 use Rattle.neighbor.proofs.NeighborCache.Laws as laws-NeighborCache
 use Rattle.neighbor.specs.declared.Outcome.{Outcome}
 use Rattle.neighbor.proofs.Outcome as row-Outcome
 use Rattle.neighbor.proofs.Outcome.Laws as laws-Outcome
-use Rattle.sweep.specs.declared.Reported.{Reported}
-use Rattle.sweep.proofs.Reported as row-Reported
-use Rattle.sweep.proofs.Reported.Laws as laws-Reported
+use Rattle.lent.specs.declared.Reported.{Reported}
+use Rattle.lent.proofs.Reported as row-Reported
+use Rattle.lent.proofs.Reported.Laws as laws-Reported
 use Rattle.sweep.specs.declared.Swept.{Swept}
 use Rattle.sweep.proofs.Swept as row-Swept
 use Rattle.sweep.proofs.Swept.Laws as laws-Swept
 use Rattle.sweep.proofs.sweep_at as callee1
 use Rattle.sweep.proofs.sweep_at.Symbol as callee1-def
 use Rattle.sweep.proofs.sweep_at.Symbol.{name as #callee1}
 use Rattle.sweep.proofs.sweep_at.Met as callee1-thm
-use Rattle.sweep.proofs.sweep.Key.{name as #this}
-use Rattle.sweep.proofs.sweep as this
-use Rattle.sweep.proofs.sweep.Statement as stated
-use Rattle.sweep.proofs.sweep.Code as code
+use Rattle.lent.proofs.sweep.Key.{name as #this}
+use Rattle.lent.proofs.sweep as this
+use Rattle.lent.proofs.sweep.Statement as stated
+use Rattle.lent.proofs.sweep.Code as code
 
 abbrev to-Reported : NeighborCache → Events → Outcome → Reported
 to-Reported f0 f1 f2 = record { cache = f0; events = f1; outcome = f2 }
@@ -115,7 +116,6 @@ module _ {M : Type 1} {𝓤 : URA M} {H : Heap 𝓤} {A : Atoms 𝓤} {K : Type 
   opd-field t n i k tyUnit u f g s e = never _ f
   opd-field t n i k (tyEnum ν τss) u f g s e = never _ f
   opd-field t n i k (tyNamed ν) u f g s e = never _ f
-
 module _ {M : Type 1} {𝓤 : URA M} {H : Heap 𝓤} {A : Atoms 𝓤} {K : Type 0} {W : Given 𝓤 H A} where
   opd-Swept-cache : K → {Γ : List (Item 𝓤)} {E : Env 𝓤 H} (n i : ℕ) {l : ℕ} (r : Swept) → spotOf 𝓤 H E i ≡ (laws-Swept.mir, l, 0) → nth 𝓤 H A n Γ ≡ ‵ (fat fullShare laws-Swept.mir l 0 (LL.val row-Swept.the-type laws-Swept.the-laws r)) → Opd K W Γ E (copy (place i (field 0 ∷ []))) (LL.val row-NeighborCache.the-type laws-NeighborCache.the-laws (r .cache))
   opd-Swept-cache t n i r s e = opd-field t n i 0 laws-Swept.mir (LL.val row-Swept.the-type laws-Swept.the-laws r) {τ = laws-NeighborCache.mir} refl refl s e
@@ -188,20 +188,20 @@ module _ {M : Type 1} (𝓤 : URA M) (H : Heap 𝓤) (A : Atoms 𝓤) (W : Given
     walk : ent 𝓤 (onEntry 𝓤 H A this.signature (κ-clock, tt) (q-clock, tt) the-args the-vals) (WpFn 𝓤 H C Λ code.function ((LL.val row-NeighborCache.the-type laws-NeighborCache.the-laws cache) ∷ vptr b-clock o-clock ∷ (vint w8 iface) ∷ []) Post)
     walk =
         qed W ((‵ (flft κ-clock q-clock) ⊛ ‵ ftrue) ∷ ‵ (owns (row-NeighborCache.the-row ∷ MutRef (named 0) κ-clock row-Clock.the-row ∷ u8 ∷ []) the-args the-vals) ∷ []) ∵ enter ! C Λ code.function ((LL.val row-NeighborCache.the-type laws-NeighborCache.the-laws cache) ∷ vptr b-clock o-clock ∷ (vint w8 iface) ∷ []) _ $
-        alloc1 ! (λ l0. alloc1 ! (λ l1. alloc1 ! (λ l2. alloc1 ! (λ l3. alloc1 ! (λ l4. alloc1 ! (λ l5. alloc0 ! $ params1 ! $ pass1 ! (init ! 8 refl (LL.lawful row-NeighborCache.the-type laws-NeighborCache.the-laws 𝓤 H A W .typed cache ((LL.val row-NeighborCache.the-type laws-NeighborCache.the-laws cache) ∷ []) is-cache .0)) $ pass1 ! (init ! 6 refl (tt, tt)) $ pass1 ! (init ! 4 refl (uint-lawful 𝓤 H A W w8 .typed iface ((vint w8 iface) ∷ []) is-iface .0)) $ pass0 ! $
+        alloc1 ! (λ l0. alloc1 ! (λ l1. alloc1 ! (λ l2. alloc1 ! (λ l3. alloc1 ! (λ l4. alloc1 ! (λ l5. alloc0 ! $ params1 ! $ pass1 ! (init ! 8 {τ = laws-NeighborCache.mir} {b = l1} {o = 0} {v = (LL.val row-NeighborCache.the-type laws-NeighborCache.the-laws cache)} refl (LL.lawful row-NeighborCache.the-type laws-NeighborCache.the-laws 𝓤 H A W .typed cache ((LL.val row-NeighborCache.the-type laws-NeighborCache.the-laws cache) ∷ []) is-cache .0)) $ pass1 ! (init ! 6 refl (tt, tt)) $ pass1 ! (init ! 4 refl (uint-lawful 𝓤 H A W w8 .typed iface ((vint w8 iface) ∷ []) is-iface .0)) $ pass0 ! $
         -- [_5; _4; _3; _2; _1; _0; toks; owns]
         move ! (13 ∷ []) $ fsplit ! $ drop ! $ fsplit ! $ fsplit3 ! $ drop ! $ move ! (2 ∷ []) $ fsplit ! $ drop ! $ drop ! $ move ! (14 ∷ []) $ split ! $ move ! (1 ∷ []) $ drop ! $
         move ! (1 ∷ 2 ∷ 0 ∷ []) $ opens ! tt row-Clock.the-row {h = clock} b-clock o-clock (λ vs. spelt ! row-Clock.the-row (Is row-Clock.the-row) (shows 𝓤 H A row-Clock.the-row) (LL.vals row-Clock.the-type laws-Clock.the-laws) (LL.tells row-Clock.the-type laws-Clock.the-laws) fullShare clock vs b-clock o-clock $ move ! (1 ∷ []) $ facts ! row-Clock.the-row (Is row-Clock.the-row) (shows 𝓤 H A row-Clock.the-row) clock ((LL.val row-Clock.the-type laws-Clock.the-laws clock) ∷ []) (λ g-clock.
-        assigns ! (of-opd ! (load ! (from ! (hop ! (look ! 10 refl) (stop !))) (look-raw ! 0 refl))) (from ! (stop !)) (init ! 4 refl (LL.lawful row-Clock.the-type laws-Clock.the-laws 𝓤 H A W .typed clock ((LL.val row-Clock.the-type laws-Clock.the-laws clock) ∷ []) g-clock .0)) $
+        assigns ! (of-opd ! (load ! (from ! (hop ! (look ! 10 refl) (stop !))) (look-raw ! 0 refl))) (from ! (stop !)) (init ! 4 {τ = laws-Clock.mir} {b = l5} {o = 0} {v = (LL.val row-Clock.the-type laws-Clock.the-laws clock)} refl (LL.lawful row-Clock.the-type laws-Clock.the-laws 𝓤 H A W .typed clock ((LL.val row-Clock.the-type laws-Clock.the-laws clock) ∷ []) g-clock .0)) $
         nothing ! $ use1 W (raw (Callee-callee1 𝓤 H A at-mem run .pre (to-callee1 𝓤 H A W at-mem run cache clock iface))) (goes-callee1 𝓤 H A W at-mem run cache clock iface is-cache g-clock is-iface) $
         calls-at ! fm (Callee-callee1 𝓤 H A at-mem run) known-callee1 (to-callee1 𝓤 H A W at-mem run cache clock iface) (and-then ! (load ! (from ! (stop !)) (look ! 13 refl)) (and-then ! (load ! (from ! (stop !)) (look ! 5 refl)) (and-then ! (load ! (from ! (stop !)) (look ! 9 refl)) (no-more !)))) (λ v1.
         use1 W (later (some (λ (r : Swept). (‵ ftrue ⊛ ‵ (row-Swept.the-row .own r (v1 ∷ []))) ⊛ raw (ensured 𝓤 H A callee1.ended (callee1.clauses 𝓤 H A at-mem run) tt (cache, (clock, (iface, tt))) tt r)))) (id⊢ 𝓤 _) $ await ! tt $ pick ! (λ r1. split ! $
         move ! (1 ∷ []) $ use1 W (some (λ (zs : Unit {0} × (Unit {0} × (Unit {0} × Unit {0}))). ‵ (lasts callee1.ended tt (cache, (clock, (iface, tt))) zs) ⊛ raw (fact 𝓤 (Said-callee1 cache clock iface r1)))) (id⊢ 𝓤 _) $ pick ! (λ zs1. split ! $ move ! (1 ∷ []) $ heard ! (Said-callee1 cache clock iface r1) (λ e1.
-        fsplit ! $ drop ! $ fsplit ! $ drop ! $ fsplit ! $ drop ! $ drop ! $ split ! $ drop ! $ facts ! row-Swept.the-row (Is row-Swept.the-row) (shows 𝓤 H A row-Swept.the-row) r1 (v1 ∷ []) (λ is1. land ! (from ! (stop !)) (init ! 6 refl (LL.lawful row-Swept.the-type laws-Swept.the-laws 𝓤 H A W .typed r1 (v1 ∷ []) is1 .0)) $
+        fsplit ! $ drop ! $ fsplit ! $ drop ! $ fsplit ! $ drop ! $ drop ! $ split ! $ drop ! $ facts ! row-Swept.the-row (Is row-Swept.the-row) (shows 𝓤 H A row-Swept.the-row) r1 (v1 ∷ []) (λ is1. land ! (from ! (stop !)) (init ! 6 {τ = laws-Swept.mir} {b = l4} {o = 0} {v = v1} refl (LL.lawful row-Swept.the-type laws-Swept.the-laws 𝓤 H A W .typed r1 (v1 ∷ []) is1 .0)) $
         rewrite ! 6 (λ (u : Val). ‵ (fat fullShare laws-Swept.mir l4 0 u)) (tells-Swept r1 v1 is1) refl $
         -- [cell clock; open clock; obs clock; auth clock; _5; _4; _3; _2; _1; _0]
         assigns ! (of-opd ! (opd-Swept-clock ! 6 4 r1 refl refl)) (from ! (hop ! (look ! 10 refl) (stop !))) (store-raw ! 0 refl (LL.lawful row-Clock.the-type laws-Clock.the-laws 𝓤 H A W .typed (r1 .clock) ((LL.val row-Clock.the-type laws-Clock.the-laws (r1 .clock)) ∷ []) (is-Swept-clock r1 _ (again-Swept r1 _ is1)) .0)) $
-        assigns ! (agg ! (and-then ! (opd-Swept-cache ! 6 4 r1 refl refl) (and-then ! (opd-Swept-events ! 6 4 r1 refl refl) (and-then ! (opd-Swept-outcome ! 6 4 r1 refl refl) (no-more !))))) (from ! (stop !)) (init ! 14 refl (LL.lawful row-Reported.the-type laws-Reported.the-laws 𝓤 H A W .typed (to-Reported (r1 .cache) (r1 .events) (r1 .outcome)) ((LL.val row-Reported.the-type laws-Reported.the-laws (to-Reported (r1 .cache) (r1 .events) (r1 .outcome))) ∷ []) (LL.owes row-Reported.the-type laws-Reported.the-laws (to-Reported (r1 .cache) (r1 .events) (r1 .outcome)) ((is-Swept-cache r1 _ (again-Swept r1 _ is1)), ((is-Swept-events r1 _ (again-Swept r1 _ is1)), ((is-Swept-outcome r1 _ (again-Swept r1 _ is1)), tt)))) .0)) $
+        assigns ! (agg ! (and-then ! (opd-Swept-cache ! 6 4 r1 refl refl) (and-then ! (opd-Swept-events ! 6 4 r1 refl refl) (and-then ! (opd-Swept-outcome ! 6 4 r1 refl refl) (no-more !))))) (from ! (stop !)) (init ! 14 {τ = laws-Reported.mir} {b = l0} {o = 0} {v = (LL.val row-Reported.the-type laws-Reported.the-laws (to-Reported (r1 .cache) (r1 .events) (r1 .outcome)))} refl (LL.lawful row-Reported.the-type laws-Reported.the-laws 𝓤 H A W .typed (to-Reported (r1 .cache) (r1 .events) (r1 .outcome)) ((LL.val row-Reported.the-type laws-Reported.the-laws (to-Reported (r1 .cache) (r1 .events) (r1 .outcome))) ∷ []) (LL.owes row-Reported.the-type laws-Reported.the-laws (to-Reported (r1 .cache) (r1 .events) (r1 .outcome)) ((is-Swept-cache r1 _ (again-Swept r1 _ is1)), ((is-Swept-events r1 _ (again-Swept r1 _ is1)), ((is-Swept-outcome r1 _ (again-Swept r1 _ is1)), tt)))) .0)) $
         owned ! row-Clock.the-row (Is row-Clock.the-row) (LL.makes row-Clock.the-type laws-Clock.the-plain 𝓤 H A) (r1 .clock) _ (is-Swept-clock r1 _ (again-Swept r1 _ is1)) $ move ! (1 ∷ 0 ∷ 2 ∷ 3 ∷ 4 ∷ []) $ closes ! tt row-Clock.the-row (r1 .clock) ((LL.val row-Clock.the-type laws-Clock.the-laws (r1 .clock)) ∷ []) b-clock o-clock $
         returns ! (look ! 13 refl) $ forget ! 3 refl $ forget ! 5 refl $ forget ! 7 refl $ forget ! 9 refl $ forget ! 11 refl $ forget ! 13 refl $
         move ! (13 ∷ 14 ∷ []) $ free1 ! $ move ! (11 ∷ 12 ∷ []) $ free1 ! $ move ! (9 ∷ 10 ∷ []) $ free1 ! $ move ! (7 ∷ 8 ∷ []) $ free1 ! $ move ! (5 ∷ 6 ∷ []) $ free1 ! $ move ! (3 ∷ 4 ∷ []) $ free1 ! $ free0 ! $ keep ! (0 ∷ 1 ∷ 2 ∷ []) $ by ! (exits (to-Reported (r1 .cache) (r1 .events) (r1 .outcome)) (LL.owes row-Reported.the-type laws-Reported.the-laws (to-Reported (r1 .cache) (r1 .events) (r1 .outcome)) ((is-Swept-cache r1 _ (again-Swept r1 _ is1)), ((is-Swept-events r1 _ (again-Swept r1 _ is1)), ((is-Swept-outcome r1 _ (again-Swept r1 _ is1)), tt)))) (r1 .clock) (reported _ _ _ _ e1)))))))))))))))
