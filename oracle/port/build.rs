@@ -5,7 +5,7 @@ use std::process::Command;
 use std::{env, fs};
 
 /// The crates whose calls are compared, with what they depend on.
-const CRATES: &[&str] = &["sweep", "pending", "learned", "iface"];
+const CRATES: &[&str] = &["lent"];
 
 fn main() {
     let root = PathBuf::from(env::var("CARGO_MANIFEST_DIR").unwrap()).join("../..");

@@ -9,14 +9,14 @@ use Rattle.neighbor.specs.declared.NeighborCache.{NeighborCache}
 use Rattle.sweep.specs.declared.Swept.{Swept}
 use Rattle.sweep.specs.SweepCalls.{SweptTo}
 use Rattle.lent.specs.declared.Reported.{Reported}
-use Rattle.lent.specs.LentRules.{ReportedTo}
+use Rattle.lent.specs.LentRules.{ReportedTo, PolledBy}
 use Rattle.wire.specs.declared.ethernet.HardwareAddress.{HardwareAddress}
 use Rattle.iface.specs.declared.addr.IfaceAddrs.{IfaceAddrs}
 use Rattle.iface.specs.declared.route.Routes.{Routes}
 use Rattle.learned.specs.declared.Slaac.{Slaac}
 use Rattle.slaac.specs.declared.Polled.{Polled}
 use Rattle.slaac.specs.declared.PolledAt.{PolledAt}
-use Rattle.slaac.specs.PollRules.{PolledTo, PolledBy}
+use Rattle.slaac.specs.PollRules.{PolledTo}
 
 pub record Clocks : Type 0 where
   -- a sweep, refused ones too, with the clock by value and with the clock lent

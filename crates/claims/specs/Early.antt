@@ -37,8 +37,9 @@ use Rattle.slaac.specs.declared.Polled.{Polled}
 use Rattle.slaac.specs.declared.PolledAt.{PolledAt}
 use Rattle.slaac.specs.declared.TurnedOff.{TurnedOff}
 use Rattle.slaac.specs.SlaacRules.{optionsIn, prefixOptions, AdvertisedTo}
-use Rattle.slaac.specs.PollRules.{PolledTo, PolledBy}
+use Rattle.slaac.specs.PollRules.{PolledTo}
 use Rattle.slaac.specs.OffRules.{TurnedOffTo}
+use Rattle.lent.specs.LentRules.{PolledBy}
 
 -- each entry is so
 abbrev pub All : {A : Type 0} → (A → Type 0) → List A → Type 0

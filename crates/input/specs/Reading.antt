@@ -1,5 +1,5 @@
--- The lines of the input. "A bad line N (from 1; also one .. above 4,096 bytes ..)"; "The last line may lack its newline.
--- The 4,096 bytes do not count the newline." No contract can say which bytes a read brings: what is said here is what becomes
+-- The lines of the input. Document 01: "A bad line N (from 1; also one .. above 4,096 bytes ..)"; the last line may do without its newline, and
+-- no newline is among the 4,096 bytes (docs/DECISIONS.md, 3). No contract can say which bytes a read brings: what is said here is what becomes
 -- of the bytes, whatever they are. Assumes nothing.
 use Prim.Native.Nat.{ℕ, _+_, _-_, _≤_, _<_}
 use mathlib.Core.Path.{_≡_}

@@ -1,12 +1,21 @@
 -- Document 01: the clock is lent by mutable reference. What the outermost calls return, and the clock that they leave. Assumes nothing.
 use Prim.Native.Nat.{ℕ}
 use mathlib.Core.Path.{_≡_}
+use mathlib.Core.Bool.{Bool}
+use mathlib.Core.List.{List}
 use Rattle.time.specs.declared.Clock.{Clock}
 use Rattle.wire.specs.Refusals.{checkNumber}
+use Rattle.wire.specs.declared.ethernet.HardwareAddress.{HardwareAddress}
 use Rattle.neighbor.specs.declared.NeighborCache.{NeighborCache}
 use Rattle.neighbor.specs.Answers.{outcomeNumber}
 use Rattle.sweep.specs.declared.Swept.{Swept}
 use Rattle.sweep.specs.SweepCalls.{sweepCheck, sweepBy}
+use Rattle.iface.specs.declared.addr.IfaceAddrs.{IfaceAddrs}
+use Rattle.iface.specs.declared.route.Routes.{Routes}
+use Rattle.learned.specs.declared.Slaac.{Slaac}
+use Rattle.slaac.specs.declared.Polled.{Polled}
+use Rattle.slaac.specs.Answers.{pollNumber, callCheck}
+use Rattle.slaac.specs.PollRules.{pollBy, pollBuffer}
 use Rattle.lent.specs.declared.Reported.{Reported}
 
 -- Sweep
@@ -19,3 +28,12 @@ pub record ReportedTo (c : NeighborCache) (k : Clock) (i : ℕ) (r : Reported) (
   pub is : r ≡ reportOf (sweepBy (sweepCheck k i) c k i)
   pub clock : k' ≡ sweepBy (sweepCheck k i) c k i .clock
   pub number : outcomeNumber (r .outcome) ≡ checkNumber (sweepCheck k i)
+
+-- Poll
+
+pub record PolledBy (s : Slaac) (t : IfaceAddrs) (r : Routes) (iface : ℕ) (up : Bool) (hw : HardwareAddress) (buf : List ℕ) (k : Clock) (p : Polled)
+    (buf' : List ℕ) (k' : Clock) : Type 0 where
+  pub is : p ≡ pollBy (callCheck (k .now) iface) s t r iface up hw buf k .polled
+  pub number : pollNumber (p .answer) ≡ checkNumber (callCheck (k .now) iface)
+  pub leaves : buf' ≡ pollBuffer (callCheck (k .now) iface) s t up hw buf k
+  pub clock : k' ≡ pollBy (callCheck (k .now) iface) s t r iface up hw buf k .clock

@@ -1,11 +1,17 @@
 // The outermost calls, to which the clock is lent. Each reads the clock whole, makes one call with the clock by value, and stores it
 // whole.
-ghost use Rattle.lent.specs.LentRules.{ReportedTo};
+ghost use Rattle.lent.specs.LentRules.{ReportedTo, PolledBy};
+use iface::addr::IfaceAddrs;
+use iface::route::Routes;
+use learned::Slaac;
 use neighbor::NeighborCache;
 use neighbor::Outcome;
+use slaac::Polled;
+use slaac::poll_at;
 use sweep::Events;
 use sweep::sweep_at;
 use time::Clock;
+use wire::ethernet::HardwareAddress;
 
 // What a sweep leaves beside the clock.
 pub struct Reported {
@@ -25,4 +31,22 @@ pub fn sweep(cache: NeighborCache, clock: &mut Clock, iface: u8) -> Reported
         events: s.events,
         outcome: s.outcome,
     }
+}
+
+// The poll at the lent clock's now, likewise. What it sends stands in the lent buffer.
+pub fn poll(
+    slaac: Slaac,
+    addrs: IfaceAddrs,
+    routes: Routes,
+    iface: u8,
+    up: bool,
+    hardware_addr: HardwareAddress,
+    buf: &mut [u8],
+    clock: &mut Clock,
+) -> Polled
+    ensures { λ r. ⌜ PolledBy slaac addrs routes iface up «hardware_addr» (now (buf .entry)) (now (clock .entry)) r (now (buf .exit)) (now (clock .exit)) ⌝ }
+{
+    let p = poll_at(slaac, addrs, routes, iface, up, hardware_addr, buf, *clock);
+    *clock = p.clock;
+    p.polled
 }

@@ -19,7 +19,7 @@ use Rattle.ndisc.specs.Rfc4861Messages.{Solicits}
 use Rattle.ndisc.specs.declared.ndisc.Solicited.the-variants.{NoRoom as NoPlace, Written}
 use Rattle.ndisc.specs.declared.ndisc.Solicited.{Solicited as Wrote}
 use Rattle.slaac.specs.Answers.{pollNumber, callCheck}
-use Rattle.slaac.specs.PollRules.{senderOf, solicitFrom, answerOf, turnBy, bufferBy, turnOf, bufferOf, TurnTo, polled, syncTurn, afterTurn, senderIn, pollOn, pollBy, pollBuffer, PolledTo, PolledBy}
+use Rattle.slaac.specs.PollRules.{senderOf, solicitFrom, answerOf, turnBy, bufferBy, turnOf, bufferOf, TurnTo, polled, syncTurn, afterTurn, senderIn, pollOn, pollBy, pollBuffer, PolledTo}
 use Rattle.slaac.specs.SyncRules.{syncAddrs, syncRoutes}
 use Rattle.slaac.specs.declared.PollAnswer.the-variants.{Refused, Off, Quiet, Solicited, NoRoom}
 use Rattle.slaac.specs.declared.PollAnswer.{PollAnswer}
@@ -178,8 +178,3 @@ module _ (s : Slaac) (t : IfaceAddrs) (r : Routes) (iface : ℕ) (up : Bool) (hw
         (on-yes (s .on) (pollOn s t r iface up hw buf k) (polled s t r k Off) p o (g ∙ ap (λ (z : Turn). afterTurn z s t r iface hw (k .now)) same))
         (ap pollNumber n ∙ turn-number u (s .discovery) (senderOf up source) (w .is))
         (on-yes (s .on) (bufferOf (s .discovery) (senderIn up t) hw buf k) buf buf′ o left)
-
-pub polled-by : (s : Slaac) (t : IfaceAddrs) (r : Routes) (iface : ℕ) (up : Bool) (hw : HardwareAddress) (buf : List ℕ) (k : Clock) (p : PolledAt)
-    (buf′ : List ℕ) → PolledTo s t r iface up hw buf k p buf′ → PolledBy s t r iface up hw buf k (p .polled) buf′ (p .clock)
-polled-by s t r iface up hw buf k p buf′ w =
-    record { is = ap (λ (x : PolledAt). x .polled) (w .is); number = w .number; leaves = w .leaves; clock = ap (λ (x : PolledAt). x .clock) (w .is) }

@@ -25,7 +25,6 @@ use Rattle.learned.specs.ExpiryRules.{syncDue, leaveExpired}
 use Rattle.slaac.specs.declared.PollAnswer.{PollAnswer}
 use Rattle.slaac.specs.declared.PollAnswer.the-variants.{Refused, Off, Quiet, Solicited, NoRoom}
 use Rattle.slaac.specs.declared.Turn.{Turn}
-use Rattle.slaac.specs.declared.Polled.{Polled}
 use Rattle.slaac.specs.declared.PolledAt.{PolledAt}
 use Rattle.slaac.specs.Answers.{pollNumber, callCheck}
 use Rattle.slaac.specs.SyncRules.{syncAddrs, syncRoutes}
@@ -101,12 +100,3 @@ pub record PolledTo (s : Slaac) (t : IfaceAddrs) (r : Routes) (iface : ℕ) (up 
   pub is : p ≡ pollBy (callCheck (k .now) iface) s t r iface up hw buf k
   pub number : pollNumber (p .polled .answer) ≡ checkNumber (callCheck (k .now) iface)
   pub leaves : buf' ≡ pollBuffer (callCheck (k .now) iface) s t up hw buf k
-
--- The same with the clock lent: it is left as the poll leaves it
-
-pub record PolledBy (s : Slaac) (t : IfaceAddrs) (r : Routes) (iface : ℕ) (up : Bool) (hw : HardwareAddress) (buf : List ℕ) (k : Clock) (p : Polled)
-    (buf' : List ℕ) (k' : Clock) : Type 0 where
-  pub is : p ≡ pollBy (callCheck (k .now) iface) s t r iface up hw buf k .polled
-  pub number : pollNumber (p .answer) ≡ checkNumber (callCheck (k .now) iface)
-  pub leaves : buf' ≡ pollBuffer (callCheck (k .now) iface) s t up hw buf k
-  pub clock : k' ≡ pollBy (callCheck (k .now) iface) s t r iface up hw buf k .clock

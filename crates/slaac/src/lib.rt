@@ -6,7 +6,7 @@ ghost use mathlib.Core.Path.{_≡_};
 ghost use Rattle.ndisc.specs.OptionWalk.{optionsOf};
 ghost use Rattle.ndisc.specs.Rfc4861Messages.{advertBy};
 ghost use Rattle.slaac.specs.SlaacRules.{messageCheck, taughtBy, AdvertisedTo};
-ghost use Rattle.slaac.specs.PollRules.{senderOf, TurnTo, PolledTo, PolledBy};
+ghost use Rattle.slaac.specs.PollRules.{senderOf, TurnTo, PolledTo};
 ghost use Rattle.slaac.specs.OffRules.{TurnedOffTo};
 use iface::addr::IfaceAddrs;
 use iface::addr::Source;
@@ -337,24 +337,6 @@ pub fn poll_at(
             answer: w,
         },
     }
-}
-
-// The same with the clock lent.
-pub fn poll(
-    slaac: Slaac,
-    addrs: IfaceAddrs,
-    routes: Routes,
-    iface: u8,
-    up: bool,
-    hardware_addr: HardwareAddress,
-    buf: &mut [u8],
-    clock: &mut Clock,
-) -> Polled
-    ensures { λ r. ⌜ PolledBy slaac addrs routes iface up «hardware_addr» (now (buf .entry)) (now (clock .entry)) r (now (buf .exit)) (now (clock .exit)) ⌝ }
-{
-    let p = poll_at(slaac, addrs, routes, iface, up, hardware_addr, buf, *clock);
-    *clock = p.clock;
-    p.polled
 }
 
 // Turn SLAAC off: remove the addresses and routes it installed. If an address went, what is known and queued behind it goes

@@ -1,4 +1,4 @@
--- "A hardware address has 12, an address 32, a message an even number of digits and at least two." Assumes nothing.
+-- Addresses and messages in hexadecimal: 12 digits, 32, or any even number but none (docs/DECISIONS.md, 4). Assumes nothing.
 use Prim.Native.Nat.{ℕ, _*_, _/_}
 use mathlib.Core.Path.{_≡_}
 use mathlib.Core.Bool.{cond}

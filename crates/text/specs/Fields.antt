@@ -1,5 +1,5 @@
--- Document 01, "The event program": a line's fields. "Fields are parted by exactly one space, with none at either end":
--- a second space in a row parts an empty field, and no kind of field is empty. Assumes nothing.
+-- A line's fields: one space parts two of them, and none stands at either end (docs/DECISIONS.md, 3). A second space in a row parts an
+-- empty field, and no kind of field is empty. Assumes nothing.
 use Prim.Native.Nat.{ℕ, zero, suc, _≤_}
 use mathlib.Core.Path.{_≡_}
 use mathlib.Core.Bool.{Bool, true, false, cond, _&&_}

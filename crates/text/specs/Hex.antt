@@ -1,4 +1,4 @@
--- Hexadecimal, two digits to a byte. "Hexadecimal digits may be of either case; what is printed is lower case." Assumes nothing.
+-- Hexadecimal, two digits to a byte: read in either case, printed in lower case (docs/DECISIONS.md, 4). Assumes nothing.
 use Prim.Native.Nat.{ℕ, _+_, _-_, _*_, _/_, _%_, _≤_}
 use mathlib.Core.Path.{_≡_}
 use mathlib.Core.Bool.{cond, _&&_}

@@ -1,6 +1,6 @@
 // The text of the event program: fields, numbers and addresses read, and text put into a lent buffer. Slices only.
 pub mod address;
-pub mod hex;
+mod hex;
 pub mod number;
 pub mod print;
 pub mod scan;

@@ -2,7 +2,7 @@
 //!
 //!     port [-n SEQUENCES] [-s SEED] [--model]
 //!
-//! Calls that the port's crates do not have yet are left out of each sequence, on both sides.
+//! A sweep and a poll are the calls to which the clock is lent.
 
 use std::time::Instant as Wall;
 
@@ -15,20 +15,21 @@ mod port {
     include!(concat!(env!("OUT_DIR"), "/port.rs"));
 }
 
-use port::iface::addr::{AddrAt, AddrOrigin, IfaceAddrs, Source};
+use port::iface::addr::{AddrAt, AddrOrigin, IfaceAddrs};
 use port::iface::route::{Expiry, RouteAt, RouteOrigin, Routes};
 use port::learned::{Phase, PrefixAt, RouterAt, Slaac};
 use port::neighbor::{Answer, Got, Neighbor, NeighborCache, NeighborState, Outcome, State};
-use port::ndisc::ndisc::{Advert, Solicited, router_advert, write_solicit};
-use port::ndisc::ndiscoption::{self, Checked, NdiscOption, Next, PrefixInformation, Walk, Written};
+use port::ndisc::ndisc::{Solicited, write_solicit};
+use port::ndisc::ndiscoption::{self, Checked, NdiscOption, PrefixInformation, Written};
 use port::pending::{PendingQueue, Push, Release, Waiting};
+use port::slaac::{AdvertAnswer, PollAnswer, process_advertisement, turn_off};
 use port::sweep::ProbeEvent;
-use port::time::{Clock, Deadline, Duration, Instant};
-use port::wire::error::{Check, Refusal, check_time};
+use port::time::{Clock, Deadline, Instant};
+use port::wire::error::Refusal;
 use port::wire::ethernet::HardwareAddress;
-use port::wire::ipv6::{Formed, Ipv6Addr, Ipv6Cidr};
+use port::wire::ipv6::{Ipv6Addr, Ipv6Cidr};
 
-/// What the port has so far.
+/// The calls of a sequence.
 const CALLS: &[&str] = &[
     "new", "option", "write", "solicit", "lookup", "start", "fill", "insert", "get", "remove", "clear", "sweep", "cache", "push", "release", "orphans", "purge", "queue", "address", "route", "restart", "on",
     "link", "off", "ra", "poll", "slaac", "prefixes", "routers", "addresses", "routes",
@@ -237,17 +238,18 @@ impl Side for Port {
         self.changed(c)
     }
     fn sweep(&mut self, iface: u8, now: u64, before: Option<u64>) -> Result<(Vec<Event>, Option<u64>), Refused> {
-        let s = port::sweep::sweep_at(self.cache, clock(now, before), iface);
+        let mut k = clock(now, before);
+        let s = port::lent::sweep(self.cache, &mut k, iface);
         self.cache = s.cache;
         if let Outcome::Refused(why) = s.outcome {
-            assert!(s.events.len == 0 && deadline(s.clock) == before);
+            assert!(s.events.len == 0 && deadline(k) == before);
             return Err(number(why));
         }
         let event = |e: &port::sweep::EventSlot| match e.event {
             ProbeEvent::Retransmit(a) => Event::Retransmit(a.octets()),
             ProbeEvent::Failed(a) => Event::Failed(a.octets()),
         };
-        Ok((s.events.slots[..s.events.len].iter().map(event).collect(), deadline(s.clock)))
+        Ok((s.events.slots[..s.events.len].iter().map(event).collect(), deadline(k)))
     }
     fn cache(&mut self) -> Vec<(u8, Addr, Entry)> {
         // The listing by index is the application's view of the same entries.
@@ -349,117 +351,42 @@ impl Side for Port {
         let c = self.slaac[usize::from(iface.min(3))].turn_on(iface);
         self.learned(iface, c)
     }
-    // The crate with the poll and the advertisement is still to come: the next three put its parts together.
     fn turn_off(&mut self, iface: u8) -> Result<(), Refused> {
-        let i = self.known(iface)?;
-        if !self.slaac[i].on {
-            return Ok(());
+        let i = usize::from(iface.min(3));
+        let t = turn_off(self.slaac[i], self.addrs[i], self.routes, self.cache, self.queue, iface);
+        (self.slaac[i], self.addrs[i], self.routes, self.cache, self.queue) = (t.slaac, t.addrs, t.routes, t.cache, t.queue);
+        match t.outcome {
+            port::learned::Outcome::Refused(why) => Err(number(why)),
+            port::learned::Outcome::Done => Ok(()),
         }
-        self.slaac[i] = Slaac::off();
-        let cleared = self.addrs[i].clear_slaac();
-        self.addrs[i] = cleared.addrs;
-        self.routes = self.routes.clear_slaac(iface);
-        if cleared.any {
-            self.clear(iface)?;
-            self.purge(iface)?;
-        }
-        Ok(())
     }
     fn advertise(&mut self, iface: u8, source: Addr, now: u64, message: &[u8]) -> Result<bool, Refused> {
-        let (now, source) = (Instant(now), ip(source));
-        if let Check::Refused(why) = check_time(now, iface) {
-            return Err(number(why));
+        let i = usize::from(iface.min(3));
+        let a = process_advertisement(self.slaac[i], self.cache, iface, ip(source), message, Instant(now));
+        (self.slaac[i], self.cache) = (a.slaac, a.cache);
+        match a.answer {
+            AdvertAnswer::Refused(why) => Err(number(why)),
+            AdvertAnswer::Off => Ok(false),
+            AdvertAnswer::Done => Ok(true),
         }
-        let mut s = self.slaac[usize::from(iface)];
-        if !s.on {
-            return Ok(false);
-        }
-        let header = match router_advert(message) {
-            Advert::Refused(why) => return Err(number(why)),
-            Advert::Header(header) => header,
-        };
-        if !source.is_link_local() {
-            return Err(6);
-        }
-        if let Walk::MalformedAt(_) = ndiscoption::check_options(message, 16) {
-            return Err(1);
-        }
-        let (mut at, mut hardware) = (16, None);
-        while let Next::Option { option, next } = ndiscoption::next_option(message, at) {
-            match option {
-                NdiscOption::PrefixInformation(info) => s = s.process_prefix(info, now),
-                NdiscOption::SourceLinkLayerAddr(m) => hardware = Some(m),
-                _ => {}
-            }
-            at = next;
-        }
-        s = s.process_router(source, Duration::from_secs(header.router_lifetime.into()), now);
-        self.slaac[usize::from(iface)] = s.store_flags(header.managed, header.other_config);
-        if let Some(m) = hardware
-            && m.is_unicast()
-        {
-            let c = self.cache.fill(iface, source, m, now);
-            self.changed(c)?;
-        }
-        Ok(true)
     }
     fn poll(&mut self, iface: u8, now: u64, before: Option<u64>, room: u64) -> Result<(Polled, Option<u64>), Refused> {
+        let i = usize::from(iface.min(3));
         let mut k = clock(now, before);
-        let now = Instant(now);
-        if let Check::Refused(why) = check_time(now, iface) {
-            return Err(number(why));
-        }
-        let i = usize::from(iface);
-        if !self.slaac[i].on {
-            return Ok((Polled::Off, before));
-        }
-        let mut polled = Polled::Nothing;
-        if self.up[i]
-            && let Source::From(src) = self.addrs[i].link_local_ipv6_address()
-        {
-            let sol = self.slaac[i].discovery.solicit(k);
-            k = sol.clock;
-            self.slaac[i].discovery = sol.discovery;
-            if sol.due {
-                let mut buffer = vec![0xa5; room as usize];
-                polled = match write_solicit(&mut buffer, src, self.mac) {
-                    Solicited::NoRoom => Polled::NoRoom,
-                    Solicited::Written => Polled::Solicit(buffer[..16].to_vec()),
-                };
-                let rest = buffer.get(16..).unwrap_or(&buffer);
-                assert!(rest.iter().all(|b| *b == 0xa5), "bytes past the message stay");
+        let mut buffer = vec![0xa5; room as usize];
+        let p = port::lent::poll(self.slaac[i], self.addrs[i], self.routes, iface, self.up[i], self.mac, &mut buffer, &mut k);
+        (self.slaac[i], self.addrs[i], self.routes) = (p.slaac, p.addrs, p.routes);
+        let (polled, kept) = match p.answer {
+            PollAnswer::Refused(why) => {
+                assert!(buffer.iter().all(|b| *b == 0xa5) && deadline(k) == before);
+                return Err(number(why));
             }
-        }
-        let a = self.slaac[i].is_sync_due(k);
-        k = a.clock;
-        if a.expired {
-            let mut n = 0;
-            while let PrefixAt::Is(p) = self.slaac[i].prefix_at(n) {
-                if let Formed::Addr(c) = p.cidr.from_link_prefix(self.mac) {
-                    self.addrs[i] = if p.is_valid(now) {
-                        let preferred = if p.is_preferred(now) {
-                            port::iface::addr::Preferred::Until(p.preferred_until)
-                        } else {
-                            port::iface::addr::Preferred::Never
-                        };
-                        self.addrs[i].put_addr(c, preferred)
-                    } else {
-                        self.addrs[i].drop_addr(c)
-                    };
-                }
-                n += 1;
-            }
-            let mut n = 0;
-            while let RouterAt::Is(r) = self.slaac[i].router_at(n) {
-                self.routes = if r.is_valid(now) {
-                    self.routes.put_route(iface, r.addr, r.valid_until)
-                } else {
-                    self.routes.drop_route(iface, r.addr)
-                };
-                n += 1;
-            }
-            self.slaac[i] = self.slaac[i].update_slaac_state(now);
-        }
+            PollAnswer::Off => (Polled::Off, 0),
+            PollAnswer::Quiet => (Polled::Nothing, 0),
+            PollAnswer::NoRoom => (Polled::NoRoom, 0),
+            PollAnswer::Solicited => (Polled::Solicit(buffer[..16].to_vec()), 16),
+        };
+        assert!(k.now.0 == now && buffer[kept..].iter().all(|b| *b == 0xa5), "now and the bytes past the message stay");
         Ok((polled, deadline(k)))
     }
     fn soliciting(&mut self, iface: u8) -> Result<Option<Soliciting>, Refused> {

@@ -116,6 +116,7 @@ module _ {M : Type 1} {𝓤 : URA M} {H : Heap 𝓤} {A : Atoms 𝓤} {K : Type 
   opd-field t n i k tyUnit u f g s e = never _ f
   opd-field t n i k (tyEnum ν τss) u f g s e = never _ f
   opd-field t n i k (tyNamed ν) u f g s e = never _ f
+
 module _ {M : Type 1} {𝓤 : URA M} {H : Heap 𝓤} {A : Atoms 𝓤} {K : Type 0} {W : Given 𝓤 H A} where
   opd-Swept-cache : K → {Γ : List (Item 𝓤)} {E : Env 𝓤 H} (n i : ℕ) {l : ℕ} (r : Swept) → spotOf 𝓤 H E i ≡ (laws-Swept.mir, l, 0) → nth 𝓤 H A n Γ ≡ ‵ (fat fullShare laws-Swept.mir l 0 (LL.val row-Swept.the-type laws-Swept.the-laws r)) → Opd K W Γ E (copy (place i (field 0 ∷ []))) (LL.val row-NeighborCache.the-type laws-NeighborCache.the-laws (r .cache))
   opd-Swept-cache t n i r s e = opd-field t n i 0 laws-Swept.mir (LL.val row-Swept.the-type laws-Swept.the-laws r) {τ = laws-NeighborCache.mir} refl refl s e
