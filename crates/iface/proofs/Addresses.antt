@@ -6,15 +6,14 @@ use mathlib.Core.Bool.{Bool, true, false}
 use mathlib.Core.List.{List, [], _∷_, _++_}
 use mathlib.Core.Path.{_≡_, refl, ap, ap₂, sym, _∙_}
 use native.Mathlib.Omega.{arith}
-use Rattle.iface.proofs.Checks.{refused-first, is-duplicate, is-full, is-fine, room, no-room}
-use Rattle.iface.specs.AddressRules.{addrsOf, withAddrs, noAddr, isAddr, isFromSlaac, manualAddr, addrCheck, addAddrBy, AddedTo, slaacAddr, refreshed, putAddr, gone, dropAddr, clearAddrs}
-use Rattle.iface.specs.Answers.{duplicate, noRoom, ifRoom, prefixTooLong}
+use Rattle.iface.proofs.Checks.{refused-first, is-duplicate, is-full, is-fine}
+use Rattle.iface.specs.AddressRules.{addrsOf, withAddrs, noAddr, isAddr, isFromSlaac, manualAddr, addrCheck, addAddrBy, AddedTo, gone, dropAddr, clearAddrs}
+use Rattle.iface.specs.Answers.{duplicate, noRoom, prefixTooLong}
 use Rattle.iface.specs.declared.Outcome.the-variants.{Refused, Done}
 use Rattle.iface.specs.declared.addr.Cleared.{Cleared}
 use Rattle.iface.specs.declared.addr.IfaceAddr.{IfaceAddr}
 use Rattle.iface.specs.declared.addr.IfaceAddrs.{IfaceAddrs}
-use Rattle.iface.specs.declared.addr.Preferred.{Preferred}
-use Rattle.table.proofs.Laws.{Made, at-end, Compacting, compacted, fewer, Finding, found-over, found-stays, found-goes, found-any, absent-end, absent-stays, absent-any}
+use Rattle.table.proofs.Laws.{Made, at-end, Compacting, compacted, fewer, Finding, found-stays, found-goes, found-any, absent-stays, absent-any}
 use Rattle.table.specs.Table.{without, anyOf}
 use Rattle.wire.specs.Refusals.{firstRefusal, checkNumber, noSuchIface}
 use Rattle.wire.specs.declared.error.Check.the-variants.{Fine, Refused as Fails}
@@ -68,30 +67,6 @@ module _ (t : IfaceAddrs) (iface : ℕ) (c : Ipv6Cidr) (x : Check) (e : x ≡ fi
         }
 
 -- SLAAC's calls
-
-abbrev pub PutSeek : IfaceAddrs → Ipv6Cidr → Preferred → ℕ → ℕ → Type 0
-PutSeek t c p k i = Finding 8 (isAddr c) (refreshed p) (ifRoom 8 (addrsOf t) (slaacAddr c p)) (t .slots) (t .len) k i
-
-module _ (t : IfaceAddrs) (c : Ipv6Cidr) (p : Preferred) (k i : ℕ) (inv : PutSeek t c p k i) where
-  pub put-over : i < k → isAddr c (getD (t .slots) i noAddr) ≡ true → isFromSlaac (getD (t .slots) i noAddr) ≡ true
-      → _≡_ {A = IfaceAddrs} (record { slots = set (t .slots) i (slaacAddr (getD (t .slots) i noAddr .cidr) p); len = k })
-      (withAddrs t (putAddr c p (addrsOf t)))
-  unfolding putAddr
-  put-over h g o = addrs-made t _ _ k (found-over noAddr inv h g _ (simp o))
-
-  pub put-stays : i < k → isAddr c (getD (t .slots) i noAddr) ≡ true → isFromSlaac (getD (t .slots) i noAddr) ≡ false
-      → _≡_ {A = IfaceAddrs} (record { slots = t .slots; len = k }) (withAddrs t (putAddr c p (addrsOf t)))
-  unfolding putAddr
-  put-stays h g o = addrs-made t _ _ k (found-stays noAddr inv h g (simp o))
-
-  pub put-end : k ≤ i → k < 8
-      → _≡_ {A = IfaceAddrs} (record { slots = set (t .slots) k (slaacAddr c p); len = k + 1 }) (withAddrs t (putAddr c p (addrsOf t)))
-  unfolding putAddr
-  put-end h l = addrs-made t _ _ (k + 1) (absent-end noAddr inv h (slaacAddr c p) l (room 8 (addrsOf t) (slaacAddr c p) k (inv .count) l))
-
-  pub put-full : k ≤ i → 8 ≤ k → _≡_ {A = IfaceAddrs} (record { slots = t .slots; len = k }) (withAddrs t (putAddr c p (addrsOf t)))
-  unfolding putAddr
-  put-full h l = addrs-made t _ _ k (absent-stays noAddr inv h (no-room 8 (addrsOf t) (slaacAddr c p) k (inv .count) l))
 
 module _ (t : IfaceAddrs) (c : Ipv6Cidr) (k i : ℕ) (inv : Seek t c k i) where
   pub drop-out : (s : List IfaceAddr) (n : ℕ) → i < k → isAddr c (getD (t .slots) i noAddr) ≡ true → isFromSlaac (getD (t .slots) i noAddr) ≡ true

@@ -1,12 +1,12 @@
 -- Laws of the application's checks: what a call tests of its arguments comes first, then what it tests of the table. Assumes nothing.
 use Prim.Native.Nat.{ℕ, _<_, _≤_}
-use borrow.Author.Tests.{lt-ltb, le-ltb, lt-leb, le-leb}
+use borrow.Author.Tests.{lt-leb, le-leb}
 use lib.ListN.{length}
 use mathlib.Core.Bool.{Bool, true, false, cond}
 use mathlib.Core.List.{List, [], _∷_, _++_}
 use mathlib.Core.Path.{_≡_, refl, _∙_}
 use native.Mathlib.Omega.{arith}
-use Rattle.iface.specs.Answers.{duplicate, noRoom, ifRoom}
+use Rattle.iface.specs.Answers.{duplicate, noRoom}
 use Rattle.wire.specs.Refusals.{Row, firstRefusal}
 use Rattle.wire.specs.declared.error.Check.the-variants.{Fine, Refused as Fails}
 use Rattle.wire.specs.declared.error.Check.{Check}
@@ -44,11 +44,3 @@ module _ {A : Type 0} (rows : List Row) (there : Bool) (es : List A) (k : ℕ) (
   is-fine d h =
       let l : length es < 8 = omega arith in
       fine-first rows (duplicate there ∷ noRoom 8 es ∷ []) fine ∙ simp (d, lt-leb 8 (length es) l)
-
--- Room for one more
-
-pub room : {A : Type 0} (size : ℕ) (es : List A) (x : A) (k : ℕ) → k ≡ length es → k < size → ifRoom size es x ≡ x ∷ []
-room size es x k e h = simp (lt-ltb (length es) size (omega arith))
-
-pub no-room : {A : Type 0} (size : ℕ) (es : List A) (x : A) (k : ℕ) → k ≡ length es → size ≤ k → ifRoom size es x ≡ []
-no-room size es x k e h = simp (le-ltb (length es) size (omega arith))

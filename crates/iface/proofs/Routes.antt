@@ -5,17 +5,14 @@ use mathlib.Core.Bool.{true}
 use mathlib.Core.List.{List, [], _∷_, _++_}
 use mathlib.Core.Path.{_≡_, refl, ap, ap₂, sym, _∙_}
 use native.Mathlib.Omega.{arith}
-use Rattle.iface.proofs.Checks.{refused-first, is-duplicate, is-full, is-fine, room, no-room}
-use Rattle.iface.specs.Answers.{duplicate, noRoom, ifRoom, prefixTooLong}
-use Rattle.iface.specs.RouteRules.{routesOf, withRoutes, noRoute, isManualRoute, manualRoute, routeCheck, addRouteBy, AddedRouteTo, isLearned, isInstalled, slaacRoute, extended, noneLeft, putRoute, dropRoute, clearRoutes}
+use Rattle.iface.proofs.Checks.{refused-first, is-duplicate, is-full, is-fine}
+use Rattle.iface.specs.Answers.{duplicate, noRoom, prefixTooLong}
+use Rattle.iface.specs.RouteRules.{routesOf, withRoutes, noRoute, isManualRoute, manualRoute, routeCheck, addRouteBy, AddedRouteTo, isLearned, isInstalled, noneLeft, dropRoute, clearRoutes}
 use Rattle.iface.specs.declared.Outcome.the-variants.{Refused, Done}
-use Rattle.iface.specs.declared.route.Expiry.the-variants.{At}
 use Rattle.iface.specs.declared.route.Route.{Route}
-use Rattle.iface.specs.declared.route.RouteOrigin.the-variants.{Slaac}
 use Rattle.iface.specs.declared.route.Routes.{Routes}
-use Rattle.table.proofs.Laws.{Made, at-end, Compacting, compacted, Finding, found-over, found-goes, found-any, absent-end, absent-stays, absent-any}
+use Rattle.table.proofs.Laws.{Made, at-end, Compacting, compacted, Finding, found-goes, found-any, absent-stays, absent-any}
 use Rattle.table.specs.Table.{without, anyOf}
-use Rattle.time.specs.declared.Instant.{Instant}
 use Rattle.wire.specs.Refusals.{firstRefusal, checkNumber, noSuchIface}
 use Rattle.wire.specs.declared.error.Check.the-variants.{Fine, Refused as Fails}
 use Rattle.wire.specs.declared.error.Check.{Check}
@@ -71,26 +68,6 @@ module _ (t : Routes) (iface : ℕ) (c : Ipv6Cidr) (via : Ipv6Addr) (x : Check) 
         }
 
 -- SLAAC's calls
-
-abbrev pub PutSeek : Routes → ℕ → Ipv6Addr → Instant → ℕ → ℕ → Type 0
-PutSeek t iface via u k i =
-    Finding 8 (isInstalled iface via) (extended u) (ifRoom 8 (routesOf t) (slaacRoute iface via u)) (t .slots) (t .len) k i
-
-module _ (t : Routes) (iface : ℕ) (via : Ipv6Addr) (u : Instant) (k i : ℕ) (inv : PutSeek t iface via u k i) where
-  pub put-over : i < k → isInstalled iface via (getD (t .slots) i noRoute) ≡ true
-      → _≡_ {A = Routes} (record { slots = set (t .slots) i (record { cidr = getD (t .slots) i noRoute .cidr; «via_router» = getD (t .slots) i noRoute .«via_router»; iface = getD (t .slots) i noRoute .iface; origin = Slaac; «expires_at» = At u }); len = k })
-      (withRoutes t (putRoute iface via u (routesOf t)))
-  unfolding putRoute
-  put-over h g = routes-made t _ _ k (found-over noRoute inv h g _ refl)
-
-  pub put-end : k ≤ i → k < 8
-      → _≡_ {A = Routes} (record { slots = set (t .slots) k (slaacRoute iface via u); len = k + 1 }) (withRoutes t (putRoute iface via u (routesOf t)))
-  unfolding putRoute
-  put-end h l = routes-made t _ _ (k + 1) (absent-end noRoute inv h _ l (room 8 (routesOf t) _ k (inv .count) l))
-
-  pub put-full : k ≤ i → 8 ≤ k → _≡_ {A = Routes} (record { slots = t .slots; len = k }) (withRoutes t (putRoute iface via u (routesOf t)))
-  unfolding putRoute
-  put-full h l = routes-made t _ _ k (absent-stays noRoute inv h (no-room 8 (routesOf t) _ k (inv .count) l))
 
 abbrev pub DropSeek : Routes → ℕ → Ipv6Addr → ℕ → ℕ → Type 0
 DropSeek t iface via k i = Finding 8 (isInstalled iface via) noneLeft [] (t .slots) (t .len) k i

@@ -1,6 +1,6 @@
 // The addresses of an interface.
 ghost use mathlib.Core.Path.{_≡_};
-ghost use Rattle.iface.specs.AddressRules.{addrsOf, withAddrs, emptyAddrs, isSlaac, manualAddr, AddedTo, putAddr, dropAddr, clearAddrs, firstLocal, addrAt};
+ghost use Rattle.iface.specs.AddressRules.{addrsOf, withAddrs, emptyAddrs, isSlaac, manualAddr, AddedTo, dropAddr, clearAddrs, firstLocal, addrAt};
 use crate::Outcome;
 use crate::check_prefix;
 use table::count_of;
@@ -65,7 +65,7 @@ pub enum AddrAt {
 }
 
 impl AddrOrigin {
-    fn is_slaac(self) -> bool
+    pub fn is_slaac(self) -> bool
         ensures { λ r. ⌜ r ≡ isSlaac self ⌝ }
     {
         match self {
@@ -138,46 +138,6 @@ impl IfaceAddrs {
             addrs: self,
             outcome: Outcome::Refused(Refusal::Full),
         }
-    }
-
-    // A valid prefix has its address: one that SLAAC installed takes the new preferred time. The application's stays, though
-    // it happens to be the address that this prefix forms.
-    pub fn put_addr(self, cidr: Ipv6Cidr, preferred: Preferred) -> IfaceAddrs
-        ensures { λ r. ⌜ r ≡ withAddrs self (putAddr cidr preferred (addrsOf self)) ⌝ }
-    {
-        let k = count_of(self.len, 8);
-        let mut i = 0;
-        while i < k {
-            let existing = self.slots[i];
-            let c = existing.cidr;
-            if c.same(cidr) {
-                let mut t = self;
-                t.len = k;
-                let o = existing.origin;
-                if o.is_slaac() {
-                    t.slots[i] = IfaceAddr {
-                        cidr: c,
-                        origin: AddrOrigin::Slaac,
-                        preferred: preferred,
-                    };
-                    return t;
-                }
-                return t;
-            }
-            i += 1;
-        }
-        let mut t = self;
-        if k < 8 {
-            t.slots[k] = IfaceAddr {
-                cidr: cidr,
-                origin: AddrOrigin::Slaac,
-                preferred: preferred,
-            };
-            t.len = k + 1;
-            return t;
-        }
-        t.len = k;
-        t
     }
 
     // The address of an expired prefix goes, and later ones move down. Only one that SLAAC installed.

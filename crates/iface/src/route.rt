@@ -1,7 +1,7 @@
 // The routes, shared by the interfaces.
 ghost use mathlib.Core.Path.{_≡_};
 ghost use Rattle.iface.specs.AddressRules.{anywhere};
-ghost use Rattle.iface.specs.RouteRules.{routesOf, withRoutes, emptyRoutes, isSlaac, isRoute, isManualRoute, isLearned, isInstalled, manualRoute, AddedRouteTo, putRoute, dropRoute, clearRoutes, routeAt};
+ghost use Rattle.iface.specs.RouteRules.{routesOf, withRoutes, emptyRoutes, isSlaac, isRoute, isManualRoute, isLearned, isInstalled, manualRoute, AddedRouteTo, dropRoute, clearRoutes, routeAt};
 use crate::Outcome;
 use crate::check_prefix;
 use table::count_of;
@@ -52,7 +52,7 @@ pub enum RouteAt {
 }
 
 // ::/0
-const IPV6_DEFAULT: Ipv6Cidr = Ipv6Cidr {
+pub const IPV6_DEFAULT: Ipv6Cidr = Ipv6Cidr {
     address: Ipv6Addr { hi: 0, lo: 0 },
     prefix_len: 0,
 };
@@ -105,7 +105,7 @@ impl Route {
     }
 
     // Whether it is the default route by that router that SLAAC installed on the interface.
-    fn installed(self, iface: u8, via_router: Ipv6Addr) -> bool
+    pub fn installed(self, iface: u8, via_router: Ipv6Addr) -> bool
         ensures { λ r. ⌜ r ≡ isInstalled iface «via_router» self ⌝ }
     {
         let o = self.origin;
@@ -173,48 +173,8 @@ impl Routes {
         }
     }
 
-    // SLAAC's own calls, which take an interface that SLAAC has tested. A valid router has its default route: one that SLAAC
-    // installed on the interface takes the new time. The application's by the same router does not stand in its way.
-    pub fn put_route(self, iface: u8, via_router: Ipv6Addr, expires_at: Instant) -> Routes
-        ensures { λ r. ⌜ r ≡ withRoutes self (putRoute iface «via_router» «expires_at» (routesOf self)) ⌝ }
-    {
-        let k = count_of(self.len, 8);
-        let mut i = 0;
-        while i < k {
-            let existing = self.slots[i];
-            if existing.installed(iface, via_router) {
-                let c = existing.cidr;
-                let v = existing.via_router;
-                let mut t = self;
-                t.slots[i] = Route {
-                    cidr: c,
-                    via_router: v,
-                    iface: existing.iface,
-                    origin: RouteOrigin::Slaac,
-                    expires_at: Expiry::At(expires_at),
-                };
-                t.len = k;
-                return t;
-            }
-            i += 1;
-        }
-        let mut t = self;
-        if k < 8 {
-            t.slots[k] = Route {
-                cidr: IPV6_DEFAULT,
-                via_router: via_router,
-                iface: iface,
-                origin: RouteOrigin::Slaac,
-                expires_at: Expiry::At(expires_at),
-            };
-            t.len = k + 1;
-            return t;
-        }
-        t.len = k;
-        t
-    }
-
-    // The default route by an expired router goes, and later ones move down. Only one that SLAAC installed on the interface.
+    // SLAAC's own calls, which take an interface that SLAAC has tested. The default route by an expired router goes, and later
+    // ones move down. Only one that SLAAC installed on the interface.
     pub fn drop_route(self, iface: u8, via_router: Ipv6Addr) -> Routes
         ensures { λ r. ⌜ r ≡ withRoutes self (dropRoute iface «via_router» (routesOf self)) ⌝ }
     {
