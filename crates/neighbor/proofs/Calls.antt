@@ -2,7 +2,8 @@
 use Prim.Native.Nat.{ℕ, _+_, _-_, _≤_, _<_, min}
 use borrow.Author.Tests.{lt-ltb, le-ltb}
 use lib.Dec.{ltb, eqb}
-use lib.ListN.{length, take, drop, set, getD, length-set, length-append, drop-of-length-le}
+use lib.ListN.{length, take, drop, set, getD, length-take, length-set, length-append, drop-of-length-le}
+use lib.Seq.{drop-cons, take-all}
 use mathlib.Core.Bool.{Bool, true, false, cond, _&&_, _||_}
 use mathlib.Core.List.{List, [], _∷_, _++_}
 use mathlib.Core.Path.{_≡_, refl, sym, ap, ap₂, subst, _∙_}
@@ -23,15 +24,13 @@ use Rattle.neighbor.specs.declared.Outcome.the-variants.{Refused, Done}
 use Rattle.neighbor.specs.declared.Removed.{Removed}
 use Rattle.neighbor.specs.declared.State.the-variants.{Started, Incomplete, Reachable, Stale}
 use Rattle.neighbor.specs.declared.State.{State}
-use Rattle.table.proofs.Laws.{Made, entries-from, entry-at, over, at-end, moved-in, moved-count, counted}
-use Rattle.table.proofs.Placing.{Placing, placed, place-none}
+use Rattle.table.proofs.Laws.{Made, entry-at, over, at-end, moved-in, moved-count, counted}
+use Rattle.table.proofs.Placing.{Placing, placing, place-next, placed, place-none}
 use Rattle.table.specs.Table.{filled, firstOf, swapRemove, kept}
-use Rattle.time.specs.declared.Instant.{Instant}
 use Rattle.wire.specs.Refusals.{checkNumber}
 use Rattle.wire.specs.declared.error.Check.the-variants.{Fine, Refused as Fails}
 use Rattle.wire.specs.declared.error.Check.{Check}
 use Rattle.wire.specs.declared.error.Refusal.{Refusal}
-use Rattle.wire.specs.declared.ethernet.HardwareAddress.{HardwareAddress}
 use Rattle.wire.specs.declared.ipv6.Ipv6Addr.{Ipv6Addr}
 
 -- Lookup and get
@@ -107,25 +106,18 @@ module _ (check : Check) (c : NeighborCache) (xs : Table) where
       ap₂ (λ (a : List Entry) (b : ℕ). record { cache = record { slots = a; len = b }; outcome = Done }) (m .slots) (m .count) in
       record { is = e ∙ ap (λ (x : Check). changeBy x c xs) (sym p); number = ap checkNumber (sym p) }
 
-module _ {c : NeighborCache} where
-  -- the check is the one that the call promises
-  pub checked : {a b : Check} {xs : Table} {r : Changed} → a ≡ b → ChangedTo a c xs r → ChangedTo b c xs r
-  checked {a} {b} {xs} {r} e p = subst (λ (x : Check). ChangedTo x c xs r) e p
+-- The loop that looks for a key: `c` is the cache `c₀` still, and none of its first `i` entries has the key
 
-  pub until : (k : Key) (h : HardwareAddress) {a b : Check} {t u : Instant} {r : Changed} → a ≡ b → t ≡ u
-      → ChangedTo a c (insertState k (Reachable h t) (entries c)) r → ChangedTo b c (insertState k (Reachable h u) (entries c)) r
-  until k h {a} {b} {t} {u} {r} e q p =
-      checked {b = b} {xs = insertState k (Reachable h u) (entries c)} {r = r} e
-      (subst (λ (x : Instant). ChangedTo a c (insertState k (Reachable h x) (entries c)) r) q p)
+pub record Looking (k : Key) (c₀ c : NeighborCache) (n i : ℕ) : Type 0 where
+  pub same : c ≡ c₀
+  pub place : Placing 16 (isKey k) (c .slots) (c .len) n i
 
--- The loop has not changed the cache
-module _ {c c₀ : NeighborCache} (same : c ≡ c₀) where
-  pub put-in : (k : Key) (st : State) {s : List Entry} {n : ℕ} → Made (c .slots) (insertState k st (entries c)) s n
-      → Made (c₀ .slots) (insertState k st (entries c₀)) s n
-  put-in k st {s} {n} m = subst (λ (x : NeighborCache). Made (x .slots) (insertState k st (entries x)) s n) same m
+pub looking : (k : Key) (c : NeighborCache) (n : ℕ) → length (c .slots) ≡ 16 → n ≡ min (c .len) 16 → Looking k c c n 0
+looking k c n full e = record { same = refl; place = placing 16 (isKey k) (c .slots) (c .len) n full e }
 
-  pub taken-from : {iface : ℕ} {addr : Ipv6Addr} {r : Removed} → RemovedTo c iface addr r → RemovedTo c₀ iface addr r
-  taken-from {iface} {addr} {r} m = subst (λ (x : NeighborCache). RemovedTo x iface addr r) same m
+pub look-on : {k : Key} {c₀ c : NeighborCache} {n i : ℕ} → Looking k c₀ c n i → i < n → isKey k (getD (c .slots) i blank) ≡ false
+    → Looking k c₀ c n (i + 1)
+look-on inv h g = record { same = inv .same; place = place-next blank (inv .place) h g }
 
 -- A state is put under a key
 
@@ -143,7 +135,7 @@ module _ (k : Key) (st : State) (es : Table) where
   put-full i p h q = rw (p, q) (simp (le-ltb (length es) (length es) (omega arith), le-ltb (length es) 16 h))
 
 module _ (key : Key) (st : State) {s : List Entry} {n k i : ℕ} (inv : Placing 16 (isKey key) s n k i) where
-  pub over-key : i < k → isKey key (getD s i blank) ≡ true → Made s (insertState key st (take n s)) (set s i (entry key st)) k
+  over-key : i < k → isKey key (getD s i blank) ≡ true → Made s (insertState key st (take n s)) (set s i (entry key st)) k
   unfolding find
   over-key h g =
       let e = inv .count in
@@ -153,7 +145,7 @@ module _ (key : Key) (st : State) {s : List Entry} {n k i : ℕ} (inv : Placing 
         count = e ∙ (sym (length-set (take n s) i (entry key st)) ∙ ap length w);
       }
 
-  pub at-the-end : k ≤ i → k < 16 → Made s (insertState key st (take n s)) (set s k (entry key st)) (k + 1)
+  at-the-end : k ≤ i → k < 16 → Made s (insertState key st (take n s)) (set s k (entry key st)) (k + 1)
   unfolding find
   at-the-end h l =
       let e = inv .count in
@@ -161,97 +153,112 @@ module _ (key : Key) (st : State) {s : List Entry} {n k i : ℕ} (inv : Placing 
       let m : k + 1 ≡ length (take n s ++ (entry key st ∷ [])) = simp length-append (omega arith) in
       record { slots = at-end s n k e (entry key st) (omega (arith, inv .full)) ∙ ap (λ (u : List Entry). filled s u) w; count = m ∙ ap length w }
 
-  pub over-victim : (v : ℕ) → k ≤ i → 16 ≤ k → v < k → victim (take n s) ≡ v → Made s (insertState key st (take n s)) (set s v (entry key st)) k
+  over-victim : (v : ℕ) → k ≤ i → 16 ≤ k → v ≡ victim s → v < 16 → Made s (insertState key st (take n s)) (set s v (entry key st)) k
   unfolding find
-  over-victim v h l lv q =
+  over-victim v h l q lv =
       let e = inv .count in
-      let w = put-full key st (take n s) v (place-none blank inv h ∙ e) (omega arith) q in
+      let whole : take n s ≡ s = take-all n s (omega (arith, inv .full, length-take n s)) in
+      let w = put-full key st (take n s) v (place-none blank inv h ∙ e) (omega arith) (ap victim whole ∙ sym q) in
       record {
-        slots = over s n k e v (entry key st) lv ∙ ap (λ (u : List Entry). filled s u) w;
+        slots = over s n k e v (entry key st) (omega arith) ∙ ap (λ (u : List Entry). filled s u) w;
         count = e ∙ (sym (length-set (take n s) v (entry key st)) ∙ ap length w);
       }
+
+-- what the call leaves: the state over the key's entry, at the end, or over the victim
+module _ {check : Check} {k : Key} {c₀ c : NeighborCache} {n i : ℕ} {st st′ : State} (q : st ≡ st′) (p : check ≡ Fine)
+    (inv : Looking k c₀ c n i) where
+  abbrev Put : List Entry → ℕ → Type 0
+  Put s m = ChangedTo check c₀ (insertState k st′ (entries c₀)) (record { cache = record { slots = s; len = m }; outcome = Done })
+
+  put : (s : List Entry) (m : ℕ) → Made (c .slots) (insertState k st (entries c)) s m → Put s m
+  put s m d =
+      let r : Changed = record { cache = record { slots = s; len = m }; outcome = Done } in
+      subst (λ (x : NeighborCache). ChangedTo check x (insertState k st′ (entries x)) r) (inv .same)
+      (subst (λ (x : State). ChangedTo check c (insertState k x (entries c)) r) q (changed check c (insertState k st (entries c)) s m p d))
+
+  pub put-over : i < n → isKey k (getD (c .slots) i blank) ≡ true → Put (set (c .slots) i (entry k st)) n
+  put-over h g = put _ _ (over-key k st (inv .place) h g)
+
+  pub put-end : n ≤ i → n < 16 → Put (set (c .slots) n (entry k st)) (n + 1)
+  put-end h l = put _ _ (at-the-end k st (inv .place) h l)
+
+  pub put-victim : (v : ℕ) → n ≤ i → 16 ≤ n → v ≡ victim (c .slots) → v < 16 → Put (set (c .slots) v (entry k st)) n
+  put-victim v h l e lv = put _ _ (over-victim k st (inv .place) v h l e lv)
 
 -- The loop that chooses the victim: of the first `i` entries the one at `index` goes first, and its rank is kept
 
 abbrev pub stateOf : List Entry → ℕ → State
 stateOf s i = getD s i blank .state
 
-pub record Choosing (s : List Entry) (n k i rank-kind rank-at index : ℕ) : Type 0 where
-  pub low : i ≤ k
+pub record Choosing (s : List Entry) (i rank-kind rank-at index : ℕ) : Type 0 where
+  pub low : i ≤ 16
   pub behind : index < i
-  pub most : k ≤ 16
   pub full : length s ≡ 16
-  pub count : k ≡ length (take n s)
   pub its-kind : rank-kind ≡ kind (stateOf s index)
   pub its-at : rank-at ≡ time (stateOf s index)
-  pub same : victimFrom index (stateOf s index) i (drop i (take n s)) ≡ victim (take n s)
+  pub same : victimFrom index (stateOf s index) i (drop i s) ≡ victim s
 
-pub choosing : {test : Entry → Bool} {s : List Entry} {n k i : ℕ} → Placing 16 test s n k i → (kd at : ℕ) → 16 ≤ k
-    → kd ≡ kind (stateOf s 0) → at ≡ time (stateOf s 0) → Choosing s n k 1 kd at 0
-choosing {test} {s} {n} {k} {i} inv kd at h p q =
-    let l : take n s ≡ getD s 0 blank ∷ drop 1 (take n s) = entries-from blank s n 0 (omega (arith, inv .count)) in
+pub choosing : (s : List Entry) (kd at : ℕ) → length s ≡ 16 → kd ≡ kind (stateOf s 0) → at ≡ time (stateOf s 0) → Choosing s 1 kd at 0
+choosing s kd at full p q =
+    let l : s ≡ getD s 0 blank ∷ drop 1 s = drop-cons s 0 blank (omega arith) in
     record {
       low = omega arith;
       behind = omega arith;
-      most = inv .most;
-      full = inv .full;
-      count = inv .count;
+      full = full;
       its-kind = p;
       its-at = q;
       same = sym (ap victim l);
     }
 
-module _ {s : List Entry} {n k i kd at index : ℕ} (inv : Choosing s n k i kd at index) where
+module _ {s : List Entry} {i kd at index : ℕ} (inv : Choosing s i kd at index) where
   -- the entry at i is compared by ranks
   ranked : (kd′ at′ : ℕ) (b : Bool) → kd′ ≡ kind (stateOf s i) → at′ ≡ time (stateOf s i)
       → b ≡ (ltb kd′ kd || (eqb kd′ kd && ltb at′ at)) → b ≡ before (stateOf s i) (stateOf s index)
   unfolding before
   ranked kd′ at′ b p q e = e ∙ simp (p, q, inv .its-kind, inv .its-at)
 
-  head : i < k → drop i (take n s) ≡ getD s i blank ∷ drop (i + 1) (take n s)
-  head h = entries-from blank s n i (omega (arith, inv .count))
+  head : i < 16 → drop i s ≡ getD s i blank ∷ drop (i + 1) s
+  head h = rw (add-one i) (drop-cons s i blank (omega (arith, inv .full)))
 
-  module _ (h : i < k) (kd′ at′ : ℕ) (b : Bool) (p : kd′ ≡ kind (stateOf s i)) (q : at′ ≡ time (stateOf s i))
+  module _ (h : i < 16) (kd′ at′ : ℕ) (b : Bool) (p : kd′ ≡ kind (stateOf s i)) (q : at′ ≡ time (stateOf s i))
       (e : b ≡ (ltb kd′ kd || (eqb kd′ kd && ltb at′ at))) where
-    pub goes-first : b ≡ true → Choosing s n k (i + 1) kd′ at′ i
+    pub goes-first : b ≡ true → Choosing s (i + 1) kd′ at′ i
     goes-first t =
         let g : before (stateOf s i) (stateOf s index) ≡ true = sym (ranked kd′ at′ b p q e) ∙ t in
-        let a : victimFrom index (stateOf s index) i (drop i (take n s)) ≡ victimFrom i (stateOf s i) (i + 1) (drop (i + 1) (take n s)) =
-        simp (head h, g, add-one) in
+        let a : victimFrom index (stateOf s index) i (drop i s) ≡ victimFrom i (stateOf s i) (i + 1) (drop (i + 1) s) = simp (head h, g, add-one) in
         record {
           low = omega arith;
           behind = omega arith;
-          most = inv .most;
           full = inv .full;
-          count = inv .count;
           its-kind = p;
           its-at = q;
           same = sym a ∙ inv .same;
         }
 
-    pub stays : b ≡ false → Choosing s n k (i + 1) kd at index
+    pub stays : b ≡ false → Choosing s (i + 1) kd at index
     stays t =
         let g : before (stateOf s i) (stateOf s index) ≡ false = sym (ranked kd′ at′ b p q e) ∙ t in
-        let a : victimFrom index (stateOf s index) i (drop i (take n s)) ≡ victimFrom index (stateOf s index) (i + 1) (drop (i + 1) (take n s)) =
+        let a : victimFrom index (stateOf s index) i (drop i s) ≡ victimFrom index (stateOf s index) (i + 1) (drop (i + 1) s) =
         simp (head h, g, add-one) in
         record {
           low = omega arith;
           behind = omega (arith, inv .behind);
-          most = inv .most;
           full = inv .full;
-          count = inv .count;
           its-kind = inv .its-kind;
           its-at = inv .its-at;
           same = sym a ∙ inv .same;
         }
 
-  pub chosen : k ≤ i → victim (take n s) ≡ index
+  pub chosen : 16 ≤ i → (index ≡ victim s) × (index < 16)
   chosen h =
-      let l : length (take n s) ≤ i = omega (arith, inv .count) in
-      let a : victimFrom index (stateOf s index) i (drop i (take n s)) ≡ index = simp (drop-of-length-le (take n s) l) in
-      sym (inv .same) ∙ a
+      let l : length s ≤ i = omega (arith, inv .full) in
+      let a : victimFrom index (stateOf s index) i (drop i s) ≡ index = simp (drop-of-length-le s l) in
+      (sym a ∙ inv .same, omega (arith, inv .low, inv .behind))
 
 -- An entry is taken out
+
+pub taken-from : {c c₀ : NeighborCache} {iface : ℕ} {addr : Ipv6Addr} {r : Removed} → c ≡ c₀ → RemovedTo c iface addr r → RemovedTo c₀ iface addr r
+taken-from {iface = iface} {addr = addr} {r = r} same m = subst (λ (x : NeighborCache). RemovedTo x iface addr r) same m
 
 module _ (c : NeighborCache) (iface : ℕ) (addr : Ipv6Addr) where
   pub remove-refused : (why : Refusal) → ifaceCheck iface ≡ Fails why → RemovedTo c iface addr (record { cache = c; taken = Rejected why })

@@ -1,10 +1,11 @@
 // The neighbour cache: the map from (interface, address) to hardware address, and the resolutions on their way.
+ghost use Prim.Native.Nat.{_<_};
 ghost use mathlib.Core.Path.{_≡_};
 ghost use mathlib.Core.Bool.{_&&_, _||_};
 ghost use lib.Dec.{ltb, eqb};
 ghost use Rattle.neighbor.specs.Answers.{answerOf, listed, listedState};
-ghost use Rattle.neighbor.specs.CacheCalls.{empty, key, LookedUp, ChangedTo, startTo, insertTo, fillTo, clearTo, GotBy, atIndex, RemovedTo, entries};
-ghost use Rattle.neighbor.specs.NeighborRules.{isKey, kind, time, before, insertState, onIface};
+ghost use Rattle.neighbor.specs.CacheCalls.{empty, key, LookedUp, startTo, insertTo, fillTo, clearTo, GotBy, atIndex, RemovedTo};
+ghost use Rattle.neighbor.specs.NeighborRules.{isKey, kind, time, victim};
 use table::count_of;
 use time::Duration;
 use time::Instant;
@@ -256,8 +257,51 @@ impl NeighborCache {
     pub fn start_resolution(self, iface: u8, addr: Ipv6Addr) -> Changed
         ensures { λ r. ⌜ startTo self iface addr r ⌝ }
     {
+        let mut cache = self;
         let check = check_key(iface, addr);
-        self.insert_state(iface, addr, State::Started, check)
+        match check {
+            Check::Refused(why) => {
+                return Changed {
+                    cache: cache,
+                    outcome: Outcome::Refused(why),
+                };
+            }
+            Check::Fine => {}
+        }
+        let entry = Entry {
+            iface: iface,
+            addr: addr,
+            state: State::Started,
+        };
+        let n = count_of(cache.len, 16);
+        let mut i = 0;
+        while i < n {
+            let e = cache.slots[i];
+            if e.has_key(iface, addr) {
+                cache.slots[i] = entry;
+                cache.len = n;
+                return Changed {
+                    cache: cache,
+                    outcome: Outcome::Done,
+                };
+            }
+            i += 1;
+        }
+        if n < 16 {
+            cache.slots[n] = entry;
+            cache.len = n + 1;
+            return Changed {
+                cache: cache,
+                outcome: Outcome::Done,
+            };
+        }
+        let index = cache.evicted();
+        cache.slots[index] = entry;
+        cache.len = n;
+        Changed {
+            cache: cache,
+            outcome: Outcome::Done,
+        }
     }
 
     pub fn fill(
@@ -269,13 +313,56 @@ impl NeighborCache {
     ) -> Changed
         ensures { λ r. ⌜ fillTo self iface addr «hardware_addr» now r ⌝ }
     {
-        let expires_at = now.add(Self::ENTRY_LIFETIME);
+        let mut cache = self;
         let check = check_fill(now, iface, addr, hardware_addr);
+        match check {
+            Check::Refused(why) => {
+                return Changed {
+                    cache: cache,
+                    outcome: Outcome::Refused(why),
+                };
+            }
+            Check::Fine => {}
+        }
+        let expires_at = now.add(Self::ENTRY_LIFETIME);
         let state = State::Reachable {
             hardware_addr: hardware_addr,
             expires_at: expires_at,
         };
-        self.insert_state(iface, addr, state, check)
+        let entry = Entry {
+            iface: iface,
+            addr: addr,
+            state: state,
+        };
+        let n = count_of(cache.len, 16);
+        let mut i = 0;
+        while i < n {
+            let e = cache.slots[i];
+            if e.has_key(iface, addr) {
+                cache.slots[i] = entry;
+                cache.len = n;
+                return Changed {
+                    cache: cache,
+                    outcome: Outcome::Done,
+                };
+            }
+            i += 1;
+        }
+        if n < 16 {
+            cache.slots[n] = entry;
+            cache.len = n + 1;
+            return Changed {
+                cache: cache,
+                outcome: Outcome::Done,
+            };
+        }
+        let index = cache.evicted();
+        cache.slots[index] = entry;
+        cache.len = n;
+        Changed {
+            cache: cache,
+            outcome: Outcome::Done,
+        }
     }
 
     // There are no static entries: to keep one, insert it again before it expires.
@@ -288,12 +375,55 @@ impl NeighborCache {
     ) -> Changed
         ensures { λ r. ⌜ insertTo self iface addr «hardware_addr» «expires_at» r ⌝ }
     {
+        let mut cache = self;
         let check = check_fill(expires_at, iface, addr, hardware_addr);
+        match check {
+            Check::Refused(why) => {
+                return Changed {
+                    cache: cache,
+                    outcome: Outcome::Refused(why),
+                };
+            }
+            Check::Fine => {}
+        }
         let state = State::Reachable {
             hardware_addr: hardware_addr,
             expires_at: expires_at,
         };
-        self.insert_state(iface, addr, state, check)
+        let entry = Entry {
+            iface: iface,
+            addr: addr,
+            state: state,
+        };
+        let n = count_of(cache.len, 16);
+        let mut i = 0;
+        while i < n {
+            let e = cache.slots[i];
+            if e.has_key(iface, addr) {
+                cache.slots[i] = entry;
+                cache.len = n;
+                return Changed {
+                    cache: cache,
+                    outcome: Outcome::Done,
+                };
+            }
+            i += 1;
+        }
+        if n < 16 {
+            cache.slots[n] = entry;
+            cache.len = n + 1;
+            return Changed {
+                cache: cache,
+                outcome: Outcome::Done,
+            };
+        }
+        let index = cache.evicted();
+        cache.slots[index] = entry;
+        cache.len = n;
+        Changed {
+            cache: cache,
+            outcome: Outcome::Done,
+        }
     }
 
     pub fn get(self, iface: u8, addr: Ipv6Addr) -> Got
@@ -388,9 +518,10 @@ impl NeighborCache {
         let mut w = 0;
         let mut i = 0;
         while i < n {
-            let e = cache.slots[i];
+            let at = i;
             i += 1;
-            if iface != e.iface {
+            if iface != cache.slots[at].iface {
+                let e = cache.slots[at];
                 cache.slots[w] = e;
                 w += 1;
             }
@@ -402,55 +533,18 @@ impl NeighborCache {
         }
     }
 
-    // Puts a state under a key: over its entry, else at the end. In a full cache an entry is evicted: stale ones first, then
-    // resolved ones, since to evict a resolution in progress would strand the packets queued on it.
-    fn insert_state(self, iface: u8, addr: Ipv6Addr, state: State, check: Check) -> Changed
-        ensures { λ r. ⌜ ChangedTo check self (insertState (key iface addr) state (entries self)) r ⌝ }
+    // Which entry a full cache evicts: stale ones first, then resolved ones, since to evict a resolution in progress would strand
+    // the packets queued on it.
+    fn evicted(self) -> usize
+        ensures { λ r. ⌜ (r ≡ victim (self .slots)) × (r < 16) ⌝ }
     {
-        let mut cache = self;
-        match check {
-            Check::Refused(why) => {
-                return Changed {
-                    cache: cache,
-                    outcome: Outcome::Refused(why),
-                };
-            }
-            Check::Fine => {}
-        }
-        let entry = Entry {
-            iface: iface,
-            addr: addr,
-            state: state,
-        };
-        let n = count_of(cache.len, 16);
-        let mut i = 0;
-        while i < n {
-            let e = cache.slots[i];
-            if e.has_key(iface, addr) {
-                cache.slots[i] = entry;
-                cache.len = n;
-                return Changed {
-                    cache: cache,
-                    outcome: Outcome::Done,
-                };
-            }
-            i += 1;
-        }
-        if n < 16 {
-            cache.slots[n] = entry;
-            cache.len = n + 1;
-            return Changed {
-                cache: cache,
-                outcome: Outcome::Done,
-            };
-        }
-        let first = cache.slots[0];
+        let first = self.slots[0];
         let s = first.state;
         let mut best = s.rank();
         let mut index = 0;
-        i = 1;
+        let mut i = 1;
         while i < 16 {
-            let e = cache.slots[i];
+            let e = self.slots[i];
             let s = e.state;
             let r = s.rank();
             let at = i;
@@ -460,11 +554,6 @@ impl NeighborCache {
                 index = at;
             }
         }
-        cache.slots[index] = entry;
-        cache.len = n;
-        Changed {
-            cache: cache,
-            outcome: Outcome::Done,
-        }
+        index
     }
 }

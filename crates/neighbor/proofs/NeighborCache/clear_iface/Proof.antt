@@ -36,14 +36,20 @@ loop-holds : tie.Need-loop-holds Inv-loop μ-loop
 loop-holds c = let full : length (c .before .before .before .before .args .self .slots) ≡ 16 = search (needs, mapped) in
     compacting 16 (onIface (c .before .before .before .before .args .iface)) (c .before .before .before .before .args .self .slots) (c .before .before .before .before .args .self .len) _ full (c .count-of .ensures)
 
+add-i : tie.Need-add-i Inv-loop μ-loop
+add-i c = omega arith
+
+mul-if1 : tie.Need-mul-if1 Inv-loop μ-loop
+mul-if1 c = omega arith
+
+element-copy-out-if1 : tie.Need-element-copy-out-if1 Inv-loop μ-loop
+element-copy-out-if1 c = omega arith
+
 mul-e : tie.Need-mul-e Inv-loop μ-loop
 mul-e c = omega arith
 
 element-copy-out-e : tie.Need-element-copy-out-e Inv-loop μ-loop
 element-copy-out-e c = omega arith
-
-add-i : tie.Need-add-i Inv-loop μ-loop
-add-i c = omega arith
 
 mul-e-2 : tie.Need-mul-e-2 Inv-loop μ-loop
 mul-e-2 c = omega arith
@@ -59,14 +65,14 @@ loop-less c = omega arith
 
 loop-again : tie.Need-loop-again Inv-loop μ-loop
 unfolding onIface
-loop-again c = one-kept blank (c .before .before .before .before .loop .inv) (omega arith) (ne-eqb _ _ (c .if1 .taken))
+loop-again c = one-kept blank (c .before .before .before .loop .inv) (omega arith) (ne-eqb _ _ (c .before .if1 .taken))
 
 loop-less-2 : tie.Need-loop-less-2 Inv-loop μ-loop
 loop-less-2 c = omega arith
 
 loop-again-2 : tie.Need-loop-again-2 Inv-loop μ-loop
 unfolding onIface
-loop-again-2 c = one-gone blank (c .before .before .before .before .loop .inv) (omega arith) (eq-eqb _ _ (c .if1 .left))
+loop-again-2 c = one-gone blank (c .before .before .loop .inv) (omega arith) (eq-eqb _ _ (c .if1 .left))
 
 returns-2 : tie.Need-returns-2 Inv-loop μ-loop
 returns-2 c = changed (ifaceCheck (c .before .before .before .before .before .before .args .iface)) (c .before .before .before .before .before .before .args .self) (clearIface (c .before .before .before .before .before .before .args .iface) (entries (c .before .before .before .before .before .before .args .self))) _ _ (sym (c .before .before .before .before .before .check-iface .ensures) ∙ c .before .before .before .enum-told .given .1) (compacted blank (c .before .loop .inv) (omega arith))
@@ -83,9 +89,11 @@ clear-iface-spec =
     enum-told
     count-of-requires
     loop-holds
+    add-i
+    mul-if1
+    element-copy-out-if1
     mul-e
     element-copy-out-e
-    add-i
     mul-e-2
     element-set-from-e
     add-w

@@ -1,18 +1,16 @@
 use Prim.Native.Nat.{_-_}
 use borrow.Author.Needs.{needs}
 use lib.ListN.{length}
-use mathlib.Core.Path.{_≡_, refl, sym, _∙_}
+use mathlib.Core.Path.{_≡_, sym, _∙_}
 use native.Mathlib.Omega.{arith}
-use Rattle.neighbor.proofs.Calls.{remove-refused, remove-none, removed, taken-from}
-use Rattle.neighbor.specs.CacheCalls.{key, blank}
-use Rattle.neighbor.specs.NeighborRules.{isKey}
+use Rattle.neighbor.proofs.Calls.{Looking, looking, look-on, remove-refused, remove-none, removed, taken-from}
+use Rattle.neighbor.specs.CacheCalls.{key}
 use Rattle.table.proofs.Laws.{mapped}
-use Rattle.table.proofs.Placing.{Placing, placing, place-next}
 use Rattle.neighbor.proofs.NeighborCache.remove.Statement.{statement}
 use Rattle.neighbor.proofs.NeighborCache.remove.Tie as tie
 
 abbrev Inv-loop : tie.InvT-loop
-Inv-loop iface addr cache₀ n i₀ cache i = (cache ≡ cache₀) × Placing 16 (isKey (key iface addr)) (cache .slots) (cache .len) n i
+Inv-loop iface addr cache₀ n i₀ cache i = Looking (key iface addr) cache₀ cache n i
 
 abbrev μ-loop : tie.MeasureT-loop
 μ-loop iface addr cache₀ n i₀ cache i = n - i
@@ -34,7 +32,7 @@ count-of-requires c κs = search needs
 
 loop-holds : tie.Need-loop-holds Inv-loop μ-loop
 loop-holds c = let full : length (c .before .before .before .before .args .self .slots) ≡ 16 = search (needs, mapped) in
-    (refl, placing 16 (isKey (key (c .before .before .before .before .args .iface) (c .before .before .before .before .args .addr))) (c .before .before .before .before .args .self .slots) (c .before .before .before .before .args .self .len) _ full (c .count-of .ensures))
+    looking (key (c .before .before .before .before .args .iface) (c .before .before .before .before .args .addr)) (c .before .before .before .before .args .self) _ full (c .count-of .ensures)
 
 mul-e : tie.Need-mul-e Inv-loop μ-loop
 mul-e c = omega arith
@@ -67,7 +65,7 @@ listed-requires : tie.Need-listed-requires Inv-loop μ-loop
 listed-requires c κs = search needs
 
 returns-2 : tie.Need-returns-2 Inv-loop μ-loop
-returns-2 c = taken-from (c .before .before .before .before .before .before .loop .inv .0) (removed (c .before .before .before .before .before .before .loop .cache) (c .before .before .before .before .before .before .before .before .before .before .before .args .iface) (c .before .before .before .before .before .before .before .before .before .before .before .args .addr) (c .before .before .before .before .before .before .loop .inv .1) (sym (c .before .before .before .before .before .before .before .before .before .before .check-iface .ensures) ∙ c .before .before .before .before .before .before .before .before .enum-told .given .1) _ (omega arith) (sym (c .before .before .before .has-key .ensures) ∙ c .before .before .if1 .taken) (c .listed .ensures))
+returns-2 c = taken-from (c .before .before .before .before .before .before .loop .inv .same) (removed (c .before .before .before .before .before .before .loop .cache) (c .before .before .before .before .before .before .before .before .before .before .before .args .iface) (c .before .before .before .before .before .before .before .before .before .before .before .args .addr) (c .before .before .before .before .before .before .loop .inv .place) (sym (c .before .before .before .before .before .before .before .before .before .before .check-iface .ensures) ∙ c .before .before .before .before .before .before .before .before .enum-told .given .1) _ (omega arith) (sym (c .before .before .before .has-key .ensures) ∙ c .before .before .if1 .taken) (c .listed .ensures))
 
 add-i : tie.Need-add-i Inv-loop μ-loop
 add-i c = omega arith
@@ -76,10 +74,10 @@ loop-less : tie.Need-loop-less Inv-loop μ-loop
 loop-less c = omega arith
 
 loop-again : tie.Need-loop-again Inv-loop μ-loop
-loop-again c = (c .before .before .before .before .loop .inv .0, place-next blank (c .before .before .before .before .loop .inv .1) (omega arith) (sym (c .before .has-key .ensures) ∙ c .if1 .left))
+loop-again c = look-on (c .before .before .before .before .loop .inv) (omega arith) (sym (c .before .has-key .ensures) ∙ c .if1 .left)
 
 returns-3 : tie.Need-returns-3 Inv-loop μ-loop
-returns-3 c = taken-from (c .before .loop .inv .0) (remove-none (c .before .loop .cache) (c .before .before .before .before .before .before .args .iface) (c .before .before .before .before .before .before .args .addr) (c .before .loop .inv .1) (sym (c .before .before .before .before .before .check-iface .ensures) ∙ c .before .before .before .enum-told .given .1) (omega arith))
+returns-3 c = taken-from (c .before .loop .inv .same) (remove-none (c .before .loop .cache) (c .before .before .before .before .before .before .args .iface) (c .before .before .before .before .before .before .args .addr) (c .before .loop .inv .place) (sym (c .before .before .before .before .before .check-iface .ensures) ∙ c .before .before .before .enum-told .given .1) (omega arith))
 
 pub remove-spec : {M : Type 1} → statement M
 remove-spec =
