@@ -9,12 +9,13 @@ use mathlib.Core.Path.{_≡_, refl, ap}
 use native.Mathlib.Omega.{arith}
 use Rattle.lines.specs.EventLines.{parsedBytes}
 use Rattle.lines.specs.declared.event.Event.{Event as AnEvent}
-use Rattle.script.specs.CourseRules.{addressWant, eventWant, saidOf, saidIn, nextOf, rank, ReadySaid, SaidTo}
+use Rattle.script.specs.CourseRules.{addressWant, eventWant, saidOf, saidIn, bytesOf, bytesIn, nextOf, rank, ReadySaid, SaidTo}
 use Rattle.script.specs.declared.course.Said.the-variants.{Bad, Static, Event as Happens}
 use Rattle.script.specs.declared.course.Said.{Said}
 use Rattle.script.specs.declared.course.Want.the-variants.{Address, Events, Event, Nothing, Failed}
 use Rattle.script.specs.declared.course.Want.{Want}
 use Rattle.text.specs.Fields.{fields}
+use Rattle.text.specs.Hex.{front}
 use Rattle.wire.specs.declared.ipv6.Ipv6Cidr.{Ipv6Cidr}
 
 address-by : (n : ℕ) (b : Bool) → eqb n 0 ≡ b → rank (cond b Events (Address (n - 1))) < 18446744073709551619 + n
@@ -31,21 +32,27 @@ event-by n false e = let h = eqb-false n 0 e in omega arith
 pub event-falls : (n : ℕ) → rank (eventWant n) < 2 + n
 event-falls n = event-by n (eqb n 0) refl
 
-pub too-long : (room : ℕ) (w : Want) (line message : List ℕ) → 4096 < length line → SaidTo room w line Bad message
-unfolding saidIn
-too-long room w line message h = record { is = rw (lt-ltb 4096 (length line) h) refl; ready = tt; falls = λ k. k }
+pub too-long : (message : List ℕ) (w : Want) (line : List ℕ) → 4096 < length line → SaidTo message w line Bad message
+unfolding saidIn bytesIn
+too-long message w line h =
+    let e = lt-ltb 4096 (length line) h in
+    record { is = rw e refl; bytes = rw e refl; ready = tt; falls = λ k. k }
 
-module _ (room : ℕ) (w : Want) (line message : List ℕ) (h : length line ≤ 4096) where
+module _ (message : List ℕ) (w : Want) (line message' : List ℕ) (h : length line ≤ 4096) where
   -- a line where v is wanted
-  pub says : (v : Want) (r : Said) → w ≡ v → r ≡ saidOf room v (fields line) → ReadySaid message (parsedBytes room (fields line)) r → rank (nextOf r) < rank v
-      → SaidTo room w line r message
-  unfolding saidIn
-  says v r p q z f = record { is = rw (le-ltb 4096 (length line) h, p) q; ready = z; falls = λ k. rw p f }
+  pub says : (v : Want) (r : Said) → w ≡ v → r ≡ saidOf (length message) v (fields line) → message' ≡ front (bytesOf (length message) v (fields line)) message
+      → ReadySaid message' (parsedBytes (length message) (fields line)) r → rank (nextOf r) < rank v → SaidTo message w line r message'
+  unfolding saidIn bytesIn
+  says v r p q b z f =
+      let e = le-ltb 4096 (length line) h in
+      record { is = rw (e, p) q; bytes = rw (e, p) b; ready = z; falls = λ k. rw p f }
 
   -- where a bad line has come
-  pub over : w ≡ Failed → SaidTo room w line Bad message
-  unfolding saidIn
-  over p = record { is = rw (le-ltb 4096 (length line) h, p) refl; ready = tt; falls = λ k. absurd (let y = rw p at k in omega arith) }
+  pub over : w ≡ Failed → message' ≡ message → SaidTo message w line Bad message'
+  unfolding saidIn bytesIn
+  over p b =
+      let e = le-ltb 4096 (length line) h in
+      record { is = rw (e, p) refl; bytes = rw (e, p) b; ready = tt; falls = λ k. absurd (let y = rw p at k in omega arith) }
 
 -- what is wanted, known by another name
 pub as-rank : {u v : Want} {m : ℕ} → u ≡ v → rank v < m → rank u < m

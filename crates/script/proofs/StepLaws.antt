@@ -13,7 +13,7 @@ use Rattle.lines.specs.EventLines.{parsedBytes}
 use Rattle.lines.specs.declared.event.Event.{Event as AnEvent}
 use Rattle.script.proofs.CardLaws.{heard, fits}
 use Rattle.script.specs.CardRules.{carryOut, messageFor, CarriedTo}
-use Rattle.script.specs.CourseRules.{nextOf, rank, ReadySaid, SaidTo}
+use Rattle.script.specs.CourseRules.{saidIn, nextOf, rank, ReadySaid, SaidTo}
 use Rattle.script.specs.StepRules.{Went, quietly, withAddrs, addedBy, added, addedCard, applyOf, room, stepOf, Applied, Stepped, messageIn, FitsSaid, StepTo}
 use Rattle.script.specs.declared.card.After.{After}
 use Rattle.script.specs.declared.card.Card.{Card}
@@ -79,7 +79,7 @@ said-fits (Next v) message bs w = tt
 said-fits (Static c v) message bs w = tt
 said-fits (Event t e v) message bs w = fits e message bs w
 
-pub line-fits : {n : ℕ} {w : Want} {line message : List ℕ} {s : Said} → SaidTo n w line s message → FitsSaid (length message) s
+pub line-fits : {before : List ℕ} {w : Want} {line message : List ℕ} {s : Said} → SaidTo before w line s message → FitsSaid (length message) s
 line-fits {message = message} {s = s} p = said-fits s message _ (p .ready)
 
 said-heard : (x : Card) (s : Said) (message bs : List ℕ) → ReadySaid message bs s → applyOf x s (messageIn s message) ≡ applyOf x s bs
@@ -107,15 +107,16 @@ applied-falls x (Next v) bs = omega arith
 applied-falls x (Static c v) bs = address-falls x c v
 applied-falls x (Event t e v) bs = omega arith
 
-pub step-done : (w : Want) (x : Card) (line message : List ℕ) (n : ℕ) (s : Said) (r : After) {out out' : List ℕ} {at : ℕ} → n ≡ 2048 → SaidTo n w line s message
-    → Stepped (applyOf x s (messageIn s message)) out at r out' → StepTo w x line out at r out'
+pub step-done : (w : Want) (x : Card) (line before message : List ℕ) (s : Said) (r : After) {out out' : List ℕ} {at : ℕ} → length before ≡ 2048
+    → SaidTo before w line s message → Stepped (applyOf x s (messageIn s message)) out at r out' → StepTo w x line out at r out'
 unfolding stepOf
-step-done w x line message n s r m p v =
-    let u : SaidTo room w line s message = rw m at p in
+step-done w x line before message s r m p v =
+    let i : s ≡ saidIn room w line = rw m at (p .is) in
+    let b : ReadySaid message (parsedBytes room (fields line)) s = rw m at (p .ready) in
     let g : applyOf x s (messageIn s message) ≡ stepOf w x line =
-    said-heard x s message (parsedBytes room (fields line)) (u .ready) ∙ ap (λ (y : Said). applyOf x y (parsedBytes room (fields line))) (u .is) in
+    said-heard x s message (parsedBytes room (fields line)) b ∙ ap (λ (y : Said). applyOf x y (parsedBytes room (fields line))) i in
     let f = applied-falls x s (messageIn s message) in
     record {
       is = rw g at v;
-      falls = λ k. let d = u .falls k in rw (v .want) (omega arith);
+      falls = λ k. let d = p .falls k in rw (v .want) (omega arith);
     }

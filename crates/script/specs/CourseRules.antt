@@ -6,6 +6,7 @@ use mathlib.Core.List.{List, []}
 use lib.ListN.{length}
 use lib.Dec.{eqb, ltb}
 use Rattle.text.specs.Fields.{Field, fields}
+use Rattle.text.specs.Hex.{front}
 use Rattle.text.specs.declared.number.Number.{Number}
 use Rattle.text.specs.declared.number.Number.the-variants.{Value as Num, Bad as NoNum}
 use Rattle.text.specs.declared.address.Hardware.{Hardware}
@@ -63,6 +64,19 @@ saidOf room Failed fs = Bad
 unfoldable pub saidIn : ℕ → Want → List ℕ → Said
 saidIn room w line = cond (ltb 4096 (length line)) Bad (saidOf room w (fields line))
 
+-- the bytes that a line brings: only an event's can
+abbrev pub bytesOf : ℕ → Want → List Field → List ℕ
+bytesOf room Mac fs = []
+bytesOf room Addresses fs = []
+bytesOf room (Address n) fs = []
+bytesOf room Events fs = []
+bytesOf room (Event n) fs = parsedBytes room fs
+bytesOf room Nothing fs = []
+bytesOf room Failed fs = []
+
+unfoldable pub bytesIn : ℕ → Want → List ℕ → List ℕ
+bytesIn room w line = cond (ltb 4096 (length line)) [] (bytesOf room w (fields line))
+
 -- what is wanted next
 abbrev pub nextOf : Said → Want
 nextOf Bad = Failed
@@ -89,7 +103,9 @@ ReadySaid message bs (Next w) = Unit {0}
 ReadySaid message bs (Static c w) = Unit {0}
 ReadySaid message bs (Happens t e w) = ReadyEvent message bs e
 
-pub record SaidTo (room : ℕ) (w : Want) (line : List ℕ) (r : Said) (message : List ℕ) : Type 0 where
-  pub is : r ≡ saidIn room w line
-  pub ready : ReadySaid message (parsedBytes room (fields line)) r
+-- the message's buffer changes at its front, by the bytes of an advertisement, and nowhere else
+pub record SaidTo (message : List ℕ) (w : Want) (line : List ℕ) (r : Said) (message' : List ℕ) : Type 0 where
+  pub is : r ≡ saidIn (length message) w line
+  pub bytes : message' ≡ front (bytesIn (length message) w line) message
+  pub ready : ReadySaid message' (parsedBytes (length message) (fields line)) r
   pub falls : 0 < rank w → rank (nextOf r) < rank w

@@ -1,6 +1,5 @@
 // Which line is wanted next, and what a line says. No state is looked at.
 ghost use mathlib.Core.Path.{_≡_};
-ghost use lib.ListN.{length};
 ghost use Rattle.script.specs.CourseRules.{addressWant, eventWant, SaidTo};
 use lines::event::Event;
 use lines::event::Parsed;
@@ -58,7 +57,7 @@ fn event_want(n: u64) -> Want
 
 // Reads a line of the kind that is wanted. The message of an advertisement is read into the front of `message`.
 pub fn read_line(want: Want, line: &[u8], message: &mut [u8]) -> Said
-    ensures { λ r. ⌜ SaidTo (length (now (message .entry))) want (now (line .entry)) r (now (message .exit)) ⌝ }
+    ensures { λ r. ⌜ SaidTo (now (message .entry)) want (now (line .entry)) r (now (message .exit)) ⌝ }
 {
     if line.len() > 4096 {
         return Said::Bad;

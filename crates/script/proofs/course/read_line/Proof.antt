@@ -9,7 +9,7 @@ use Rattle.script.proofs.course.read_line.Statement.{statement}
 use Rattle.script.proofs.course.read_line.Tie as tie
 
 returns : tie.Need-returns
-returns c = too-long _ _ _ _ (c .if1 .taken)
+returns c = too-long _ _ _ (c .if1 .taken)
 
 enum-told : tie.Need-enum-told
 enum-told c = search needs
@@ -96,46 +96,46 @@ enum-told-10 : tie.Need-enum-told-10
 enum-told-10 c = search needs
 
 returns-2 : tie.Need-returns-2
-returns-2 c = says _ _ _ _ (c .before .before .before .before .before .before .if1 .left) Mac _ (c .before .before .before .before .enum-told .given .1) (sym (ap macSaid (sym (c .before .before .before .mac .ensures) ∙ c .before .h .given .1))) tt (omega arith)
+returns-2 c = says _ _ _ _ (c .before .before .before .before .before .before .if1 .left) Mac _ (c .before .before .before .before .enum-told .given .1) (sym (ap macSaid (sym (c .before .before .before .mac .ensures) ∙ c .before .h .given .1))) refl tt (omega arith)
 
 returns-3 : tie.Need-returns-3
-returns-3 c = says _ _ _ _ (c .before .before .before .before .before .if1 .left) Mac _ (c .before .before .before .enum-told .given .1) (sym (ap macSaid (sym (c .before .before .mac .ensures) ∙ c .enum-told2 .given .1))) tt (omega arith)
+returns-3 c = says _ _ _ _ (c .before .before .before .before .before .if1 .left) Mac _ (c .before .before .before .enum-told .given .1) (sym (ap macSaid (sym (c .before .before .mac .ensures) ∙ c .enum-told2 .given .1))) refl tt (omega arith)
 
 returns-4 : tie.Need-returns-4
-returns-4 c = says _ _ _ _ (c .before .before .before .before .before .before .before .before .if1 .left) Addresses _ (c .before .before .before .before .before .before .enum-told3 .given .1) (ap Next (c .address-want .ensures) ∙ sym (ap addressesSaid (sym (c .before .before .before .before .counted .ensures) ∙ c .before .before .n .given .1))) tt (as-rank (c .address-want .ensures) (omega (arith, address-falls (c .before .before .n .given .0 .0))))
+returns-4 c = says _ _ _ _ (c .before .before .before .before .before .before .before .before .if1 .left) Addresses _ (c .before .before .before .before .before .before .enum-told3 .given .1) (ap Next (c .address-want .ensures) ∙ sym (ap addressesSaid (sym (c .before .before .before .before .counted .ensures) ∙ c .before .before .n .given .1))) refl tt (as-rank (c .address-want .ensures) (omega (arith, address-falls (c .before .before .n .given .0 .0))))
 
 returns-5 : tie.Need-returns-5
-returns-5 c = says _ _ _ _ (c .before .before .before .before .before .before .if1 .left) Addresses _ (c .before .before .before .before .enum-told3 .given .1) (sym (ap addressesSaid (sym (c .before .before .counted .ensures) ∙ c .enum-told4 .given .1))) tt (omega arith)
+returns-5 c = says _ _ _ _ (c .before .before .before .before .before .before .if1 .left) Addresses _ (c .before .before .before .before .enum-told3 .given .1) (sym (ap addressesSaid (sym (c .before .before .counted .ensures) ∙ c .enum-told4 .given .1))) refl tt (omega arith)
 
 returns-6 : tie.Need-returns-6
-returns-6 c = says _ _ _ _ (c .before .before .before .before .before .before .before .before .if1 .left) (Address (c .before .before .before .before .before .before .want .given .0 .0)) _ (c .before .before .before .before .before .before .want .given .1) (static-as (c .address-want2 .ensures) ∙ sym (ap (addressSaid (c .before .before .before .before .before .before .want .given .0 .0)) (sym (c .before .before .before .before .address-line .ensures) ∙ c .before .before .cidr .given .1))) tt (as-rank (c .address-want2 .ensures) (address-falls (c .before .before .before .before .before .before .want .given .0 .0)))
+returns-6 c = says _ _ _ _ (c .before .before .before .before .before .before .before .before .if1 .left) (Address (c .before .before .before .before .before .before .want .given .0 .0)) _ (c .before .before .before .before .before .before .want .given .1) (static-as (c .address-want2 .ensures) ∙ sym (ap (addressSaid (c .before .before .before .before .before .before .want .given .0 .0)) (sym (c .before .before .before .before .address-line .ensures) ∙ c .before .before .cidr .given .1))) refl tt (as-rank (c .address-want2 .ensures) (address-falls (c .before .before .before .before .before .before .want .given .0 .0)))
 
 returns-7 : tie.Need-returns-7
-returns-7 c = says _ _ _ _ (c .before .before .before .before .before .before .if1 .left) (Address (c .before .before .before .before .want .given .0 .0)) _ (c .before .before .before .before .want .given .1) (sym (ap (addressSaid (c .before .before .before .before .want .given .0 .0)) (sym (c .before .before .address-line .ensures) ∙ c .enum-told5 .given .1))) tt (omega arith)
+returns-7 c = says _ _ _ _ (c .before .before .before .before .before .before .if1 .left) (Address (c .before .before .before .before .want .given .0 .0)) _ (c .before .before .before .before .want .given .1) (sym (ap (addressSaid (c .before .before .before .before .want .given .0 .0)) (sym (c .before .before .address-line .ensures) ∙ c .enum-told5 .given .1))) refl tt (omega arith)
 
 returns-8 : tie.Need-returns-8
-returns-8 c = says _ _ _ _ (c .before .before .before .before .before .before .before .before .if1 .left) Events _ (c .before .before .before .before .before .before .enum-told6 .given .1) (ap Next (c .event-want .ensures) ∙ sym (ap eventsSaid (sym (c .before .before .before .before .counted2 .ensures) ∙ c .before .before .n2 .given .1))) tt (as-rank (c .event-want .ensures) (omega (arith, event-falls (c .before .before .n2 .given .0 .0))))
+returns-8 c = says _ _ _ _ (c .before .before .before .before .before .before .before .before .if1 .left) Events _ (c .before .before .before .before .before .before .enum-told6 .given .1) (ap Next (c .event-want .ensures) ∙ sym (ap eventsSaid (sym (c .before .before .before .before .counted2 .ensures) ∙ c .before .before .n2 .given .1))) refl tt (as-rank (c .event-want .ensures) (omega (arith, event-falls (c .before .before .n2 .given .0 .0))))
 
 returns-9 : tie.Need-returns-9
-returns-9 c = says _ _ _ _ (c .before .before .before .before .before .before .if1 .left) Events _ (c .before .before .before .before .enum-told6 .given .1) (sym (ap eventsSaid (sym (c .before .before .counted2 .ensures) ∙ c .enum-told7 .given .1))) tt (omega arith)
+returns-9 c = says _ _ _ _ (c .before .before .before .before .before .before .if1 .left) Events _ (c .before .before .before .before .enum-told6 .given .1) (sym (ap eventsSaid (sym (c .before .before .counted2 .ensures) ∙ c .enum-told7 .given .1))) refl tt (omega arith)
 
 same-length : tie.Need-same-length
 same-length c = search needs
 
 returns-10 : tie.Need-returns-10
-returns-10 c = says _ _ _ _ (c .before .before .before .before .before .before .before .before .before .before .before .if1 .left) (Event (c .before .before .before .before .before .before .before .before .before .want2 .given .0 .0)) _ (c .before .before .before .before .before .before .before .before .before .want2 .given .1) (happens-as (c .event-want2 .ensures) ∙ sym (ap (eventSaid (c .before .before .before .before .before .before .before .before .before .want2 .given .0 .0)) (sym (c .before .before .before .before .before .before .parse-event .ensures .is) ∙ c .before .before .time .given .1))) (rw (c .before .before .time .given .1) at (c .before .before .before .before .before .before .parse-event .ensures .ready)) (as-rank (c .event-want2 .ensures) (event-falls (c .before .before .before .before .before .before .before .before .before .want2 .given .0 .0)))
+returns-10 c = says _ _ _ _ (c .before .before .before .before .before .before .before .before .before .before .before .if1 .left) (Event (c .before .before .before .before .before .before .before .before .before .want2 .given .0 .0)) _ (c .before .before .before .before .before .before .before .before .before .want2 .given .1) (happens-as (c .event-want2 .ensures) ∙ sym (ap (eventSaid (c .before .before .before .before .before .before .before .before .before .want2 .given .0 .0)) (sym (c .before .before .before .before .before .before .parse-event .ensures .is) ∙ c .before .before .time .given .1))) (c .before .before .before .before .before .before .parse-event .ensures .bytes) (rw (c .before .before .time .given .1) at (c .before .before .before .before .before .before .parse-event .ensures .ready)) (as-rank (c .event-want2 .ensures) (event-falls (c .before .before .before .before .before .before .before .before .before .want2 .given .0 .0)))
 
 same-length-2 : tie.Need-same-length-2
 same-length-2 c = search needs
 
 returns-11 : tie.Need-returns-11
-returns-11 c = says _ _ _ _ (c .before .before .before .before .before .before .before .before .before .if1 .left) (Event (c .before .before .before .before .before .before .before .want2 .given .0 .0)) _ (c .before .before .before .before .before .before .before .want2 .given .1) (sym (ap (eventSaid (c .before .before .before .before .before .before .before .want2 .given .0 .0)) (sym (c .before .before .before .before .parse-event .ensures .is) ∙ c .enum-told8 .given .1))) tt (omega arith)
+returns-11 c = says _ _ _ _ (c .before .before .before .before .before .before .before .before .before .if1 .left) (Event (c .before .before .before .before .before .before .before .want2 .given .0 .0)) _ (c .before .before .before .before .before .before .before .want2 .given .1) (sym (ap (eventSaid (c .before .before .before .before .before .before .before .want2 .given .0 .0)) (sym (c .before .before .before .before .parse-event .ensures .is) ∙ c .enum-told8 .given .1))) (c .before .before .before .before .parse-event .ensures .bytes) tt (omega arith)
 
 returns-12 : tie.Need-returns-12
-returns-12 c = says _ _ _ _ (c .before .before .if1 .left) Nothing _ (c .enum-told9 .given .1) refl tt (omega arith)
+returns-12 c = says _ _ _ _ (c .before .before .if1 .left) Nothing _ (c .enum-told9 .given .1) refl refl tt (omega arith)
 
 returns-13 : tie.Need-returns-13
-returns-13 c = over _ _ _ _ (c .before .before .if1 .left) (c .enum-told10 .given .1)
+returns-13 c = over _ _ _ _ (c .before .before .if1 .left) (c .enum-told10 .given .1) refl
 
 pub read-line-spec : {M : Type 1} → statement M
 read-line-spec =
