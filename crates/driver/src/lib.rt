@@ -1,10 +1,9 @@
 // Runs the event program: the lines of a descriptor are carried out one by one, and what they print goes to a sink. Memory is
 // constant: a block of input, a block of output, and the state.
 ghost use mathlib.Core.Path.{_≡_};
-ghost use mathlib.Core.Bool.{false};
-ghost use Prim.Native.Nat.{_≤_, _<_};
+ghost use Prim.Native.Nat.{_≤_};
 ghost use lib.ListN.{length};
-ghost use Rattle.script.specs.CourseRules.{rank};
+ghost use Rattle.driver.specs.RunRules.{failed, complete, FlushedTo, endText, Whole};
 use input::reader::Line;
 use input::reader::Reader;
 use input::reader::next_line;
@@ -19,7 +18,7 @@ use script::course::Want;
 const GATHERED: usize = 57344;
 
 fn is_failed(want: Want) -> bool
-    ensures { λ r. ⌜ (r ≡ false → 0 < rank want) ⌝ }
+    ensures { λ r. ⌜ r ≡ failed want ⌝ }
 {
     match want {
         Want::Failed => true,
@@ -32,7 +31,9 @@ fn is_failed(want: Want) -> bool
     }
 }
 
-fn is_nothing(want: Want) -> bool {
+fn is_nothing(want: Want) -> bool
+    ensures { λ r. ⌜ r ≡ complete want ⌝ }
+{
     match want {
         Want::Nothing => true,
         Want::Mac => false,
@@ -53,7 +54,7 @@ struct Flush {
 // Writes what is gathered, where that is much.
 fn flushed(sink: Sink, out: &[u8], at: usize) -> Flush
     requires { ⌜ at ≤ length (now out) ⌝ }
-    ensures { λ r. ⌜ r .at ≤ 57344 ⌝ }
+    ensures { λ r. ⌜ FlushedTo at r ⌝ }
 {
     if at < GATHERED {
         return Flush { ok: true, at };
@@ -73,38 +74,23 @@ fn last(sink: Sink, out: &[u8], at: usize) -> bool
     }
 }
 
-// `bad line N` in place of the state.
-fn bad_line(sink: Sink, out: &mut [u8], at: usize, n: u64) -> bool
-    requires { ⌜ at ≤ length (now out) ⌝ }
-    ensures { λ _. ⌜ length (now (out .exit)) ≡ length (now (out .entry)) ⌝ }
-{
-    let to = answer::bad_line(out, at, n);
-    last(sink, out, to)
-}
-
-// The state, after the last event.
-fn listed(sink: Sink, card: Card, out: &mut [u8], at: usize) -> bool
-    requires { ⌜ at ≤ length (now out) ⌝ }
-{
-    let to = card.list(out, at);
-    last(sink, out, to)
-}
-
-// No line came: the input has ended, or line n is too long or cannot be read.
-fn ended(sink: Sink, line: Line, want: Want, card: Card, out: &mut [u8], at: usize, n: u64) -> bool
-    requires { ⌜ at ≤ length (now out) ⌝ }
+// How the output ends, after a line or where none came: with the state after the last event, else with `bad line N`, line n being
+// missing, too long, not to be read, or bad.
+fn ended(line: Line, want: Want, card: Card, out: &mut [u8], at: usize, n: u64) -> usize
+    requires { ⌜ (at ≤ 57344) × (65536 ≤ length (now out)) ⌝ }
+    ensures { λ r. ⌜ Whole (endText line want card n) (now (out .entry)) at r (now (out .exit)) ⌝ }
 {
     match line {
         Line::End => {
             if is_nothing(want) {
-                listed(sink, card, out, at)
+                card.list(out, at)
             } else {
-                bad_line(sink, out, at, n)
+                answer::bad_line(out, at, n)
             }
         }
-        Line::Long => bad_line(sink, out, at, n),
-        Line::Error => bad_line(sink, out, at, n),
-        Line::At(_, _, _) => bad_line(sink, out, at, n),
+        Line::Long => answer::bad_line(out, at, n),
+        Line::Error => answer::bad_line(out, at, n),
+        Line::At(_, _, _) => answer::bad_line(out, at, n),
     }
 }
 
@@ -120,7 +106,8 @@ fn run_lines(fd: i32, sink: Sink, buf: &mut [u8], out: &mut [u8]) -> bool
     loop {
         let line = next_line(fd, buf, reader);
         let Line::At(from, to, rest) = line else {
-            return ended(sink, line, want, card, out, at, n);
+            let end = ended(line, want, card, out, at, n);
+            return last(sink, out, end);
         };
         let s = card.step(want, &buf[from..to], out, at);
         want = s.want;
@@ -131,7 +118,8 @@ fn run_lines(fd: i32, sink: Sink, buf: &mut [u8], out: &mut [u8]) -> bool
             return false;
         }
         if is_failed(want) {
-            return bad_line(sink, out, at, n);
+            let end = ended(line, want, card, out, at, n);
+            return last(sink, out, end);
         }
         reader = rest;
         n = std::num::wrapping_add_u64(n, 1);

@@ -22,7 +22,7 @@ use Rattle.learned.specs.declared.Router.{Router}
 use Rattle.neighbor.specs.declared.Entry.{Entry}
 use Rattle.neighbor.specs.declared.State.the-variants.{Started, Incomplete, Reachable, Stale}
 use Rattle.neighbor.specs.declared.State.{State}
-use Rattle.report.specs.AnswerLines.{newline, eachLine, solicitWord, refusedWord, offWord, retransmitWord, failedWord, solicitLine, refusedLine, offLine, probeLine, slotLine, probeLines}
+use Rattle.report.specs.AnswerLines.{newline, eachLine, solicitWord, refusedWord, offWord, badWord, retransmitWord, failedWord, solicitLine, refusedLine, offLine, badLine, probeLine, slotLine, probeLines}
 use Rattle.report.specs.StateLines.{headingLine, section, addressField, hardwareField, numberField, prefixLine, routerLine, originField, preferredField, addrLine, routeOriginField, expiryField, routeLine, neighborField, neighborLine, prefixesText, routersText, addressesText, routesText, neighborsText, stateText, reachableWord, staleWord, dashWord, prefixesWord, routersWord, addressesWord, routesWord, neighborsWord}
 use Rattle.sweep.specs.declared.Events.{Events}
 use Rattle.sweep.specs.declared.ProbeEvent.the-variants.{Retransmit, Failed}
@@ -84,6 +84,10 @@ refused-short t n = at-most 1040 (then (then (then {b = refusedWord} {n = 9} (nu
 pub off-short : (t : ℕ) → Short (offLine t) 1040
 unfolding offLine
 off-short t = at-most 1040 (then {b = offWord} {n = 5} (number t) (record { is = omega arith })) (omega arith)
+
+pub bad-short : (n : ℕ) → Short (badLine n) 30
+unfolding badLine
+bad-short n = then (then {a = badWord} {m = 9} (record { is = omega arith }) (number n)) end
 
 probe-short : (t : ℕ) (v : ProbeEvent) → Short (probeLine t v) 65
 probe-short t (Retransmit a) =

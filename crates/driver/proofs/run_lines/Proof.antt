@@ -1,9 +1,9 @@
 use Prim.Native.Nat.{_≤_, _<_}
 use borrow.Author.Needs.{needs}
 use lib.ListN.{length}
-use mathlib.Core.Path.{_≡_, refl, _∙_}
+use mathlib.Core.Path.{_≡_, refl, sym, _∙_}
 use native.Mathlib.Omega.{arith}
-use Rattle.driver.proofs.RunLaws.{whole}
+use Rattle.driver.proofs.RunLaws.{whole, kept-low, goes-on}
 use Rattle.script.specs.CourseRules.{rank}
 use Rattle.driver.proofs.run_lines.Statement.{statement}
 use Rattle.driver.proofs.run_lines.Tie as tie
@@ -27,13 +27,16 @@ enum-known-line : tie.Need-enum-known-line Inv-loop μ-loop
 enum-known-line c = search needs
 
 ended-requires : tie.Need-ended-requires Inv-loop μ-loop
-ended-requires c κs = omega (arith, c .before .before .before .before .before .before .loop .inv .2, c .before .before .before .before .before .before .loop .inv .3)
+ended-requires c κs = (c .before .before .before .before .before .before .loop .inv .3, c .before .before .before .before .before .before .loop .inv .2)
+
+last-requires : tie.Need-last-requires Inv-loop μ-loop
+last-requires c κs = omega (arith, c .before .before .before .ended .ensures .within, c .before .before .before .ended .ensures .same)
 
 same-length : tie.Need-same-length Inv-loop μ-loop
-same-length c = search needs
+same-length c = c .before .before .before .before .before .before .before .before .before .next-line .ensures .same ∙ c .before .before .before .before .before .before .before .before .before .before .before .loop .inv .0
 
 same-length-2 : tie.Need-same-length-2 Inv-loop μ-loop
-same-length-2 c = search needs
+same-length-2 c = c .before .before .before .before .ended .ensures .same ∙ c .before .before .before .before .before .before .before .before .before .before .before .loop .inv .1
 
 returns : tie.Need-returns Inv-loop μ-loop
 returns c = search needs
@@ -65,14 +68,17 @@ returns-2 c = search needs
 is-failed-requires : tie.Need-is-failed-requires Inv-loop μ-loop
 is-failed-requires c κs = search needs
 
-bad-line-requires : tie.Need-bad-line-requires Inv-loop μ-loop
-bad-line-requires c κs = omega (arith, c .before .before .before .before .before .before .before .before .before .before .step .ensures .is .put .same, c .before .before .before .before .before .before .before .before .before .before .before .before .before .before .before .before .before .before .before .before .before .loop .inv .2, c .before .before .before .before .before .flushed .ensures)
+ended-requires-2 : tie.Need-ended-requires-2 Inv-loop μ-loop
+ended-requires-2 c κs = (kept-low (c .before .before .before .before .before .flushed .ensures), omega (arith, c .before .before .before .before .before .before .before .before .before .before .step .ensures .is .put .same, c .before .before .before .before .before .before .before .before .before .before .before .before .before .before .before .before .before .before .before .before .before .loop .inv .2))
+
+last-requires-2 : tie.Need-last-requires-2 Inv-loop μ-loop
+last-requires-2 c κs = omega (arith, c .before .before .before .ended2 .ensures .within, c .before .before .before .ended2 .ensures .same)
 
 same-length-5 : tie.Need-same-length-5 Inv-loop μ-loop
-same-length-5 c = c .before .before .before .before .before .before .before .before .before .before .before .before .before .before .before .before .before .before .before .before .before .before .next-line .ensures .same ∙ c .before .before .before .before .before .before .before .before .before .before .before .before .before .before .before .before .before .before .before .before .before .before .before .before .loop .inv .0
+same-length-5 c = c .before .before .before .before .before .before .before .before .before .before .before .before .before .before .before .before .before .before .before .before .before .before .before .before .next-line .ensures .same ∙ c .before .before .before .before .before .before .before .before .before .before .before .before .before .before .before .before .before .before .before .before .before .before .before .before .before .before .loop .inv .0
 
 same-length-6 : tie.Need-same-length-6 Inv-loop μ-loop
-same-length-6 c = c .before .before .bad-line .ensures ∙ c .before .before .before .before .before .before .before .before .before .before .before .before .before .step .ensures .is .put .same ∙ c .before .before .before .before .before .before .before .before .before .before .before .before .before .before .before .before .before .before .before .before .before .before .before .before .loop .inv .1
+same-length-6 c = c .before .before .before .before .ended2 .ensures .same ∙ c .before .before .before .before .before .before .before .before .before .before .before .before .before .before .before .step .ensures .is .put .same ∙ c .before .before .before .before .before .before .before .before .before .before .before .before .before .before .before .before .before .before .before .before .before .before .before .before .before .before .loop .inv .1
 
 returns-3 : tie.Need-returns-3 Inv-loop μ-loop
 returns-3 c = search needs
@@ -84,7 +90,7 @@ loop-less : tie.Need-loop-less Inv-loop μ-loop
 loop-less c = c .before .before .before .before .before .before .before .before .before .before .step .ensures .falls (c .before .before .before .before .before .before .before .before .before .before .before .before .before .before .before .before .before .before .before .before .before .loop .inv .4)
 
 loop-again : tie.Need-loop-again Inv-loop μ-loop
-loop-again c = (c .before .before .before .before .before .before .before .before .before .before .before .before .before .before .before .before .before .before .before .next-line .ensures .same ∙ c .before .before .before .before .before .before .before .before .before .before .before .before .before .before .before .before .before .before .before .before .before .loop .inv .0, c .before .before .before .before .before .before .before .before .before .before .step .ensures .is .put .same ∙ c .before .before .before .before .before .before .before .before .before .before .before .before .before .before .before .before .before .before .before .before .before .loop .inv .1, omega (arith, c .before .before .before .before .before .before .before .before .before .before .step .ensures .is .put .same, c .before .before .before .before .before .before .before .before .before .before .before .before .before .before .before .before .before .before .before .before .before .loop .inv .2), c .before .before .before .before .before .flushed .ensures, c .before .before .is-failed .ensures (c .before .if2 .left))
+loop-again c = (c .before .before .before .before .before .before .before .before .before .before .before .before .before .before .before .before .before .before .before .next-line .ensures .same ∙ c .before .before .before .before .before .before .before .before .before .before .before .before .before .before .before .before .before .before .before .before .before .loop .inv .0, c .before .before .before .before .before .before .before .before .before .before .step .ensures .is .put .same ∙ c .before .before .before .before .before .before .before .before .before .before .before .before .before .before .before .before .before .before .before .before .before .loop .inv .1, omega (arith, c .before .before .before .before .before .before .before .before .before .before .step .ensures .is .put .same, c .before .before .before .before .before .before .before .before .before .before .before .before .before .before .before .before .before .before .before .before .before .loop .inv .2), kept-low (c .before .before .before .before .before .flushed .ensures), goes-on (c .before .before .before .before .before .before .before .before .before .before .step .result .want) (sym (c .before .before .is-failed .ensures) ∙ c .before .if2 .left))
 
 pub run-lines-spec : {M : Type 1} → statement M
 run-lines-spec =
@@ -97,6 +103,7 @@ run-lines-spec =
     next-line-requires
     enum-known-line
     ended-requires
+    last-requires
     same-length
     same-length-2
     returns
@@ -109,7 +116,8 @@ run-lines-spec =
     same-length-4
     returns-2
     is-failed-requires
-    bad-line-requires
+    ended-requires-2
+    last-requires-2
     same-length-5
     same-length-6
     returns-3
