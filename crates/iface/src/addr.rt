@@ -10,25 +10,25 @@ use wire::error::Refusal;
 use wire::ipv6::Ipv6Addr;
 use wire::ipv6::Ipv6Cidr;
 
-// Where an interface address came from.
+// Who put an address there.
 pub enum AddrOrigin {
-    // Assigned by the application.
+    // The application.
     Manual,
-    // Formed by SLAAC from a router-advertised prefix.
+    // The sync, for a prefix that was advertised.
     Slaac,
 }
 
-// Whether an address is preferred, or deprecated (RFC 4862, 5.5.4).
+// For how long an address is chosen to send from; after that it still receives (RFC 4862, 5.5.4).
 pub enum Preferred {
-    // Preferred for as long as it is assigned.
+    // The application's: no lifetime was given.
     Always,
-    // Preferred until this instant, deprecated after it.
+    // Up to that point in time, and not at it.
     Until(Instant),
-    // Deprecated.
+    // Its time has run out.
     Never,
 }
 
-// An address assigned to an interface, with its prefix length.
+// An entry: the address and its length are the key, the rest is how it came and how long it is preferred.
 pub struct IfaceAddr {
     pub cidr: Ipv6Cidr,
     pub origin: AddrOrigin,
@@ -76,7 +76,7 @@ impl AddrOrigin {
 }
 
 impl IfaceAddr {
-    // An address assigned by the application.
+    // As the application adds one.
     fn manual(cidr: Ipv6Cidr) -> IfaceAddr
         ensures { λ r. ⌜ r ≡ manualAddr cidr ⌝ }
     {

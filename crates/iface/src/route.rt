@@ -11,11 +11,11 @@ use wire::error::Refusal;
 use wire::ipv6::Ipv6Addr;
 use wire::ipv6::Ipv6Cidr;
 
-// Where a route came from.
+// Who put a route there.
 pub enum RouteOrigin {
-    // Added by the application.
+    // The application.
     Manual,
-    // Learned from an IPv6 router advertisement.
+    // The sync, for a router that advertised itself.
     Slaac,
 }
 
@@ -25,7 +25,7 @@ pub enum Expiry {
     At(Instant),
 }
 
-// A prefix of addresses that should be routed via a router, out of an interface.
+// Packets for the prefix go to the router, by the interface.
 pub struct Route {
     pub cidr: Ipv6Cidr,
     pub via_router: Ipv6Addr,
@@ -82,7 +82,7 @@ impl Route {
         }
     }
 
-    // Compares this route based on the interface, the prefix and the next hop router.
+    // Whether it is that route: when and by whom it was made does not count.
     fn same_route(self, iface: u8, cidr: Ipv6Cidr, via_router: Ipv6Addr) -> bool
         ensures { λ r. ⌜ r ≡ isRoute iface cidr «via_router» self ⌝ }
     {

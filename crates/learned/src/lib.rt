@@ -16,7 +16,7 @@ use wire::error::Refusal;
 use wire::ipv6::Ipv6Addr;
 use wire::ipv6::Ipv6Cidr;
 
-// A prefix of addresses received via router advertisements.
+// A prefix that was advertised, and its two times.
 pub struct Prefix {
     pub cidr: Ipv6Cidr,
     pub preferred_until: Instant,
@@ -29,11 +29,11 @@ pub struct Router {
     pub valid_until: Instant,
 }
 
-// Router solicitation state machine.
+// How far router discovery has come.
 pub enum Phase {
-    // The next router solicitation is due at the next poll.
+    // Nothing is sent yet: the first poll that can will send.
     Start,
-    // Soliciting routers. The next solicitation is due at this time.
+    // Sent, and unanswered; another goes out at that time if any is left.
     Discovering(Instant),
     Maintaining,
 }
@@ -44,13 +44,13 @@ pub struct Discovery {
     pub num_solicitations: u8,
 }
 
-// What the application can see.
+// For the application to read.
 pub struct SlaacState {
-    // At least one router advertisement was received.
+    // Whether there is a router at all: an advertisement was taken.
     pub routers_seen: bool,
-    // The last one had the flag "managed address configuration" set: addresses are available through DHCPv6.
+    // The newest one's flag 0x80: DHCPv6 has addresses.
     pub managed: bool,
-    // The last one had the flag "other configuration" set: other configuration is available through DHCPv6.
+    // The newest one's flag 0x40: DHCPv6 has the rest.
     pub other_config: bool,
 }
 
@@ -147,7 +147,7 @@ impl Prefix {
         }
     }
 
-    // Whether the prefix is still valid.
+    // Whether its address may still be used.
     pub fn is_valid(self, now: Instant) -> bool
         ensures { λ r. ⌜ r ≡ isValid now (self .«valid_until») ⌝ }
     {
@@ -205,7 +205,7 @@ impl Discovery {
         }
     }
 
-    // Whether a router solicitation must be emitted. The clock is asked last.
+    // Whether it is time to send. The clock is asked last, so that a timer of one that cannot be sent wakes nobody.
     fn rs_required(self, clock: Clock) -> Answer
         ensures { λ r. ⌜ r ≡ due self clock ⌝ }
     {
@@ -495,8 +495,7 @@ impl Slaac {
         s
     }
 
-    // Whether what was learned must be synchronized with the interface. Every time is looked at, so that the ones
-    // that have not run out count toward the deadline.
+    // Whether the tables are behind. It asks of every time, though one would do, so that the clock has heard of them all.
     pub fn is_sync_due(self, clock: Clock) -> Answer
         ensures { λ r. ⌜ r ≡ syncDue self clock ⌝ }
     {
@@ -554,7 +553,7 @@ impl Slaac {
         s
     }
 
-    // Solicit again, keeping the prefixes and routers already learned (RFC 4861, 6.3.7).
+    // Discovery from the start, as after the link was down (RFC 4861, 6.3.7); what is known stays.
     pub fn restart(self, iface: u8) -> Changed
         ensures { λ r. ⌜ RestartedTo self iface r ⌝ }
     {

@@ -17,21 +17,21 @@ use wire::error::check_key;
 use wire::ethernet::HardwareAddress;
 use wire::ipv6::Ipv6Addr;
 
-// State of a cache entry, in the style of RFC 4861, 7.3.2.
+// What is known of a neighbour (RFC 4861, 7.3.2, as far as the Rust has it).
 pub enum State {
-    // Resolution started, and the first solicitation went out, since the last sweep, which sets the timer.
+    // Asked for since the last sweep, so no timer is set.
     Started,
     // Solicitations are being sent, and no answer has come.
     Incomplete {
         probes_sent: u8,
         retrans_at: Instant,
     },
-    // The hardware address is known.
+    // It answered, and packets go there.
     Reachable {
         hardware_addr: HardwareAddress,
         expires_at: Instant,
     },
-    // The mapping expired. It is not used to send: the next packet resolves the neighbour again.
+    // It answered too long ago: a packet for it starts over.
     Stale {
         hardware_addr: HardwareAddress,
     },
@@ -253,7 +253,7 @@ impl NeighborCache {
         Answer::NotFound
     }
 
-    // The caller sends the first solicitation itself; the next sweep sets the timer.
+    // The first solicitation is the caller's to send. A sweep sets the timer, since this call has no clock.
     pub fn start_resolution(self, iface: u8, addr: Ipv6Addr) -> Changed
         ensures { λ r. ⌜ startTo self iface addr r ⌝ }
     {
@@ -365,7 +365,7 @@ impl NeighborCache {
         }
     }
 
-    // There are no static entries: to keep one, insert it again before it expires.
+    // For an application that knows the neighbour. It expires like any other, so it has to come again.
     pub fn insert(
         self,
         iface: u8,
@@ -462,7 +462,7 @@ impl NeighborCache {
         Got::Nothing
     }
 
-    // The last entry moves into the place of the one that is taken out.
+    // What stood last fills the hole.
     pub fn remove(self, iface: u8, addr: Ipv6Addr) -> Removed
         ensures { λ r. ⌜ RemovedTo self iface addr r ⌝ }
     {
@@ -533,8 +533,7 @@ impl NeighborCache {
         }
     }
 
-    // Which entry a full cache evicts: stale ones first, then resolved ones, since to evict a resolution in progress would strand
-    // the packets queued on it.
+    // The index that a full cache gives up: what can be had again at once first, a resolution last, since packets wait on it.
     fn evicted(self) -> usize
         ensures { λ r. ⌜ (r ≡ victim (self .slots)) × (r < 16) ⌝ }
     {

@@ -202,7 +202,7 @@ impl PendingQueue {
         }
     }
 
-    // Drops the packets whose resolution is gone: the entry was removed or evicted, or it resolved and went stale.
+    // Drops the packets that nothing will release: their key has no entry, or a stale one.
     pub fn purge_orphans(self, cache: NeighborCache) -> Purged
         ensures { λ r. ⌜ r ≡ purgedOf self (orphaned (entries cache)) ⌝ }
     {

@@ -2,4 +2,3 @@ pub mod SyncLaws
 pub mod PollLaws
 pub mod AdvertLaws
 pub mod OffLaws
-pub mod Examples

@@ -3,4 +3,3 @@ pub mod SlaacRules
 pub mod SyncRules
 pub mod PollRules
 pub mod OffRules
-pub mod Examples

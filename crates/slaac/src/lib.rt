@@ -1,5 +1,5 @@
-// IPv6 stateless address autoconfiguration (SLAAC) of an interface. Router solicitations go out, and from the router
-// advertisements that arrive addresses are formed and default routes installed. Both expire with the lifetimes advertised.
+// SLAAC of an interface (RFC 4862): an advertisement teaches, a poll solicits and brings addresses and default routes up to date, and
+// turning it off takes them away.
 mod sync;
 
 ghost use mathlib.Core.Path.{_≡_};
@@ -55,7 +55,7 @@ pub enum PollAnswer {
     Quiet,
     // A solicitation of 16 bytes stands in the buffer.
     Solicited,
-    // One was due and counts as sent, and the buffer is too short.
+    // It was due, and did not fit.
     NoRoom,
 }
 
@@ -210,9 +210,8 @@ pub fn process_advertisement(
     }
 }
 
-// Emit a router solicitation when discovery requires one. It waits for the link to be up and for a link-local address to be sent
-// from, since a reply to `::` must be multicast and the router cannot learn our link-layer address. While it waits, its timer
-// does not count toward the deadline.
+// The solicitation's turn. Without a link or a link-local address to send from there is none, and discovery is not even asked, so
+// that a card that cannot send is not woken for it.
 fn ndisc_rs_egress(
     discovery: Discovery,
     up: bool,
@@ -241,7 +240,7 @@ fn ndisc_rs_egress(
     let d = s.discovery;
     let k = s.clock;
     if s.due {
-        // Without room it counts as sent too: the retry timer sends the next one.
+        // Too short a buffer uses it up as well: the next is due when its time comes.
         match ndisc::ndisc::write_solicit(buf, src_addr, hardware_addr) {
             Solicited::NoRoom => {
                 return Turn {
@@ -266,7 +265,7 @@ fn ndisc_rs_egress(
     }
 }
 
-// Run SLAAC: solicit routers when due, and apply what the advertisements taught to the interface's addresses and routes.
+// A poll: the solicitation's turn, then the sync if there is anything to bring up to date.
 pub fn poll_at(
     slaac: Slaac,
     addrs: IfaceAddrs,
@@ -313,8 +312,7 @@ pub fn poll_at(
     let mut s = slaac;
     s.discovery = e;
     if x.expired {
-        // Addresses come and go without touching the neighbours: the router that advertised the prefix has just been
-        // entered there.
+        // The neighbours are left alone: the advertisement that asked for this sync may just have filled one.
         let a2 = sync::sync_addrs(addrs, s, hardware_addr, timestamp);
         let r2 = sync::sync_routes(routes, s, iface, timestamp);
         let s2 = s.update_slaac_state(timestamp);
@@ -339,8 +337,8 @@ pub fn poll_at(
     }
 }
 
-// Turn SLAAC off: remove the addresses and routes it installed. If an address went, what is known and queued behind it goes
-// too. What is off already stays.
+// SLAAC off, and its addresses and routes gone. If an address went, the interface's neighbours and packets go too, since they may have
+// come by it. What is off already stays.
 pub fn turn_off(
     slaac: Slaac,
     addrs: IfaceAddrs,

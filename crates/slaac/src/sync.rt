@@ -17,7 +17,7 @@ use time::Instant;
 use wire::ethernet::HardwareAddress;
 use wire::ipv6::Formed;
 
-// A preferred lifetime that has run out is not kept as a time.
+// A time that has passed is not worth listing.
 fn preferred(prefix: Prefix, now: Instant) -> Preferred
     ensures { λ r. ⌜ r ≡ preferredOf now (prefix .«preferred_until») ⌝ }
 {
@@ -28,7 +28,7 @@ fn preferred(prefix: Prefix, now: Instant) -> Preferred
     Preferred::Never
 }
 
-// Every valid prefix gets its address, and the address of every expired prefix goes, if SLAAC installed it. The search stands here
+// Prefix by prefix: what it forms comes or stays while it is valid, and goes when it is not, if it is SLAAC's. The search stands here
 // and not in `iface`, since a call for each prefix would copy the table in and out.
 pub fn sync_addrs(
     addrs: IfaceAddrs,
@@ -57,8 +57,8 @@ pub fn sync_addrs(
                 let existing = t.slots[j];
                 let d = existing.cidr;
                 if d.same(a) {
-                    // One that SLAAC installed follows the preferred lifetime, which a router shortens to retire its prefix. The
-                    // application's stays, though it happens to be the address that this prefix forms.
+                    // SLAAC's own takes the new time, sooner or later than before: so a router retires a prefix. What the
+                    // application added is the application's.
                     let o = existing.origin;
                     if o.is_slaac() {
                         t.slots[j] = IfaceAddr {

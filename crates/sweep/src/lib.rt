@@ -67,7 +67,7 @@ fn expire_state(state: State, now: Instant) -> Expiry
                 },
             }
         }
-        // A due one is retransmitted by the probe events of its interface.
+        // Left to the probe events, which are one interface's.
         State::Incomplete {
             probes_sent: _,
             retrans_at: _,
@@ -100,7 +100,7 @@ fn expire_state(state: State, now: Instant) -> Expiry
     }
 }
 
-// Every timer and expiry that has not passed counts toward the deadline.
+// What is still to come joins the clock's deadline.
 fn expire_clock(state: State, clock: Clock) -> Clock
     ensures { λ r. ⌜ r ≡ expireClockState clock state ⌝ }
 {
@@ -224,7 +224,7 @@ pub fn sweep_at(cache: NeighborCache, clock: Clock, iface: u8) -> Swept
         match timer {
             Timer::NotDue => {}
             Timer::Spent => {
-                // The last entry moves into `at`, and is examined next.
+                // What stood last fills the hole, and its turn is next.
                 let last = c.slots[len - 1];
                 c.slots[at] = last;
                 len -= 1;

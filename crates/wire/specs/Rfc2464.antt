@@ -29,7 +29,7 @@ sameHardware a b = eqb (a .hi) (b .hi) && eqb (a .lo) (b .lo)
 abbrev pub flipped : ℕ → ℕ
 flipped b = cond (eqb (b / 2 % 2) 1) (b - 2) (b + 2)
 
--- 4: the identifier is the address's first three bytes, "FF FE", and its last three, with the "u" bit complemented
+-- 4: the address's first three bytes, ff fe, and its last three, where the universal/local bit is complemented; document 01: "ff fe in the middle"
 abbrev pub euiOf : List ℕ → List ℕ
 euiOf m = flipped (getD m 0 0) ∷ getD m 1 0 ∷ getD m 2 0 ∷ 0xff ∷ 0xfe ∷ getD m 3 0 ∷ getD m 4 0 ∷ getD m 5 0 ∷ []
 
