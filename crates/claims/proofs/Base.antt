@@ -1,5 +1,5 @@
 -- Facts of lists. Assumes nothing.
-use Prim.Native.Nat.{ℕ, zero, suc, _≤_}
+use Prim.Native.Nat.{ℕ, zero, suc, _≤_, _<_}
 use lib.ListN.{length, length-append}
 use mathlib.Core.Bool.{Bool, true, false, cond}
 use mathlib.Core.List.{List, [], _∷_, _++_}
@@ -23,6 +23,11 @@ pub swap-length : {A : Type 0} (i : ℕ) (t : List A) → length (swapRemove i t
 swap-length i [] = omega arith
 swap-length zero (e ∷ t) = omega (arith, length-lastFirst t)
 swap-length (suc i) (e ∷ t) = omega (arith, swap-length i t)
+
+pub swap-one : {A : Type 0} (i : ℕ) (t : List A) → i < length t → suc (length (swapRemove i t)) ≡ length t
+swap-one i [] h = absurd (omega arith)
+swap-one zero (e ∷ t) h = omega (arith, length-lastFirst t)
+swap-one (suc i) (e ∷ t) h = omega (arith, swap-one i t (omega arith))
 
 pub kept-length : {A : Type 0} (test : A → Bool) (t : List A) → length (kept test t) ≤ length t
 kept-length test [] = omega arith

@@ -58,7 +58,7 @@ unfolding eventsFrom
 events-none zero i now a = refl
 events-none (suc n) i now a = rw (probe-none i now a, eventsFrom)
 
-events-one : (n : ℕ) (i : ℕ) (now : Instant) (t : Table) (place : ℕ) (v : ProbeEvent) (t' : Table) (place' : ℕ)
+pub events-one : (n : ℕ) (i : ℕ) (now : Instant) (t : Table) (place : ℕ) (v : ProbeEvent) (t' : Table) (place' : ℕ)
     → probe i now t place ≡ happens v t' place' → eventsFrom (suc n) i now t place ≡ andThen v (eventsFrom n i now t' place')
 unfolding eventsFrom
 events-one n i now t place v t' place' h = rw (h, eventsFrom)

@@ -1,14 +1,17 @@
 -- The places of the cache, in words. Assumes nothing.
-use Prim.Native.Nat.{ℕ, suc}
+use Prim.Native.Nat.{ℕ, zero, suc, _+_, _≤_}
 use borrow.Author.Tests.{eqb-true, eq-eqb, leb-true, le-leb}
 use lib.Dec.{eqb}
-use lib.ListN.{length, getD, set, drop}
+use lib.ListN.{length, getD, set, drop, length-set, length-map}
 use lib.Seq.{drop-cons, drop-length}
-use mathlib.Core.Bool.{true, false, true≢false}
-use mathlib.Core.List.{_∷_}
+use mathlib.Core.Bool.{Bool, true, false, true≢false}
+use mathlib.Core.List.{[], _∷_}
 use mathlib.Core.Logic.{_⊎_, inl, inr}
 use mathlib.Core.Path.{_≡_, refl, sym, ap, _∙_}
-use Rattle.claims.specs.Places.{DueNow, NoneLeft, Places}
+use native.Mathlib.Omega.{arith}
+use Rattle.claims.proofs.Base.{swap-one}
+use Rattle.claims.proofs.Events.{events-one}
+use Rattle.claims.specs.Places.{DueNow, NoneLeft, UntilNone, over, more, Places}
 use Rattle.neighbor.proofs.Eviction.{eviction-law, find-law}
 use Rattle.neighbor.proofs.Keys.{and-true}
 use Rattle.neighbor.specs.CacheCalls.{blank}
@@ -16,7 +19,8 @@ use Rattle.neighbor.specs.NeighborRules.{Table, onIface}
 use Rattle.neighbor.specs.declared.Entry.{Entry}
 use Rattle.neighbor.specs.declared.State.the-variants.{Started, Incomplete, Reachable, Stale}
 use Rattle.neighbor.specs.declared.State.{State}
-use Rattle.sweep.specs.SweepRules.{dueState, due, spentState, spent, probed, nothing, happens, probeAt, probe}
+use Rattle.sweep.specs.SweepRules.{dueState, due, spentState, spent, probed, nothing, happens, probeAt, probe, eventsFrom, expire, expireAll, sweepTable}
+use Rattle.sweep.specs.declared.ProbeEvent.{ProbeEvent}
 use Rattle.sweep.specs.declared.ProbeEvent.the-variants.{Retransmit, Failed}
 use Rattle.table.proofs.First.{first-from-law}
 use Rattle.table.specs.First.{FirstAt, NoneFrom}
@@ -83,6 +87,58 @@ none i now t place h = go (first-from-law .is blank (due i now) place t)
     go (inl f) = absurd (true≢false (sym (f .passes) ∙ h .none (firstFrom (due i now) place t) (f .from) (f .inside)))
     go (inr n) = at-end (n .end)
 
+-- Until none
+
+expired-length : (now : Instant) (t : Table) → length (expireAll now t) ≡ length t
+unfolding expireAll
+expired-length now t = length-map t (expire now)
+
+ended : (n i : ℕ) (now : Instant) (t : Table) (place : ℕ) → probe i now t place ≡ nothing → eventsFrom n i now t place ≡ record { events = []; table = t }
+unfolding eventsFrom
+ended zero i now t place h = refl
+ended (suc n) i now t place h = rw (h, eventsFrom)
+
+abbrev Goes : ℕ → ℕ → Instant → Table → ℕ → Type 0
+Goes n i now t place = UntilNone i now t place (eventsFrom n i now t place .events) (eventsFrom n i now t place .table)
+
+module _ (i : ℕ) (now : Instant) (t : Table) (place : ℕ) where
+  goes-none : (n j : ℕ) → NoneFrom blank (due i now) place t j → Goes n i now t place
+  goes-none n j x =
+      let p = none i now t place (record { end = refl; none = x .none }) in
+      rw (ended n i now t place p) (over p)
+
+  module _ (m : ℕ) (then : (t' : Table) (place' : ℕ) → length t' ≤ m + place' → Goes m i now t' place') where
+    goes-one : (v : ProbeEvent) (t' : Table) (place' : ℕ) → probe i now t place ≡ happens v t' place' → length t' ≤ m + place' → Goes (suc m) i now t place
+    goes-one v t' place' p k = rw (events-one m i now t place v t' place' p) (more p (then t' place' k))
+
+    goes-first : (j : ℕ) → length t ≤ suc m + place → FirstAt blank (due i now) place t j → (x : Bool) → spent (getD t j blank) ≡ x → Goes (suc m) i now t place
+    goes-first j k f true s =
+        let l = swap-one j t (f .inside) in
+        let o = f .from in
+        goes-one (Failed (getD t j blank .addr)) (swapRemove j t) j (fails i now t place j f s) (omega arith)
+    goes-first j k f false s =
+        let l = length-set t j (probed now (getD t j blank)) in
+        let o = f .from in
+        goes-one (Retransmit (getD t j blank .addr)) (set t j (probed now (getD t j blank))) (suc j) (sends i now t place j f s) (omega arith)
+
+    goes-on : (j : ℕ) → length t ≤ suc m + place → FirstAt blank (due i now) place t j ⊎ NoneFrom blank (due i now) place t j → Goes (suc m) i now t place
+    goes-on j k (inl f) = goes-first j k f (spent (getD t j blank)) refl
+    goes-on j k (inr x) = goes-none (suc m) j x
+
+  goes-out : (j : ℕ) → length t ≤ place → FirstAt blank (due i now) place t j ⊎ NoneFrom blank (due i now) place t j → Goes zero i now t place
+  goes-out j k (inl f) = let a = f .from in let b = f .inside in absurd (omega arith)
+  goes-out j k (inr x) = goes-none zero j x
+
+-- n rounds are enough for the entries from the place on
+until : (n i : ℕ) (now : Instant) (t : Table) (place : ℕ) → length t ≤ n + place → Goes n i now t place
+until zero i now t place h = goes-out i now t place (firstFrom (due i now) place t) (omega arith) (first-from-law .is blank (due i now) place t)
+until (suc m) i now t place h =
+    goes-on i now t place m (λ t' place' k. until m i now t' place' k) (firstFrom (due i now) place t) h (first-from-law .is blank (due i now) place t)
+
+until-none : (i : ℕ) (now : Instant) (t : Table) → UntilNone i now (expireAll now t) 0 (sweepTable i now t .events) (sweepTable i now t .table)
+unfolding sweepTable
+until-none i now t = until (length t) i now (expireAll now t) 0 (let e = expired-length now t in omega arith)
+
 pub places : Places
 places = record {
   evicted = eviction-law;
@@ -93,4 +149,5 @@ places = record {
   fails = fails;
   sends = sends;
   none = none;
+  until-none = until-none;
 }

@@ -3,6 +3,7 @@
 use Prim.Native.Nat.{ℕ, suc, _≤_}
 use mathlib.Core.Path.{_≡_}
 use mathlib.Core.Bool.{true, false}
+use mathlib.Core.List.{List, [], _∷_}
 use lib.ListN.{length, getD, set}
 use Rattle.table.specs.First.{FirstAt, NoneFrom, FirstFromLaw}
 use Rattle.table.specs.Table.{swapRemove}
@@ -12,8 +13,9 @@ use Rattle.neighbor.specs.declared.Entry.{Entry}
 use Rattle.neighbor.specs.NeighborRules.{Table}
 use Rattle.neighbor.specs.CacheCalls.{blank}
 use Rattle.neighbor.specs.Eviction.{EvictionLaw, FindLaw}
+use Rattle.sweep.specs.declared.ProbeEvent.{ProbeEvent}
 use Rattle.sweep.specs.declared.ProbeEvent.the-variants.{Retransmit, Failed}
-use Rattle.sweep.specs.SweepRules.{due, spent, probed, nothing, happens, probe}
+use Rattle.sweep.specs.SweepRules.{due, spent, probed, nothing, happens, probe, expireAll, sweepTable}
 
 -- "Incomplete, of the interface and due"
 pub record DueNow (i : ℕ) (now : Instant) (e : Entry) : Type 0 where
@@ -29,6 +31,12 @@ pub record NoneLeft (e : Entry) : Type 0 where
   pub time : Instant
   pub incomplete : e .state ≡ Incomplete probes time
   pub three : 3 ≤ probes
+
+-- Probe events from a place, one after the other, until there is none: they are vs, and leave the table u
+pub data UntilNone (i : ℕ) (now : Instant) : Table → ℕ → List ProbeEvent → Table → Type 0 where
+  over : {t : Table} {place : ℕ} → probe i now t place ≡ nothing → UntilNone i now t place [] t
+  more : {t t' u : Table} {place place' : ℕ} {v : ProbeEvent} {vs : List ProbeEvent} → probe i now t place ≡ happens v t' place'
+      → UntilNone i now t' place' vs u → UntilNone i now t place (v ∷ vs) u
 
 pub record Places : Type 1 where
   -- "A full table evicts the first kind present: Stale, Reachable by earliest expiry, Incomplete by earliest due, Started; ties take the lowest index."
@@ -48,3 +56,6 @@ pub record Places : Type 1 where
       → probe i now t place ≡ happens (Retransmit (getD t j blank .addr)) (set t j (probed now (getD t j blank))) (suc j)
   -- and there is none
   pub none : (i : ℕ) (now : Instant) (t : Table) (place : ℕ) → NoneFrom blank (due i now) place t (length t) → probe i now t place ≡ nothing
+  -- "A sweep of an interface is one expiry pass, then its probe events from place 0 until none"
+  pub until-none : (i : ℕ) (now : Instant) (t : Table)
+      → UntilNone i now (expireAll now t) 0 (sweepTable i now t .events) (sweepTable i now t .table)
