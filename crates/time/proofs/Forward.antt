@@ -9,10 +9,12 @@ use borrow.Author.Tests.{ltb-true, ltb-false}
 use Rattle.time.specs.declared.Instant.{Instant}
 use Rattle.time.specs.declared.Deadline.{Deadline}
 use Rattle.time.specs.declared.Deadline.the-variants.{None, At}
+use Rattle.time.specs.declared.Expiry.{Expiry}
+use Rattle.time.specs.declared.Expiry.the-variants.{At as EndsAt, Forever}
 use Rattle.time.specs.declared.Clock.{Clock}
 use Rattle.time.specs.declared.Answer.{Answer}
-use Rattle.time.specs.ClockRules.{hasExpired, sooner, scheduledOf, askedOf}
-use Rattle.time.specs.Forward.{NotLater, Forward, Step, ask, schedule, stepped, runs, ForwardLaw}
+use Rattle.time.specs.ClockRules.{hasExpired, sooner, scheduledOf, askedOf, askedEnd}
+use Rattle.time.specs.Forward.{NotLater, Forward, Step, ask, ask-of, schedule, stepped, runs, ForwardLaw}
 
 pub same : (d : Deadline) → NotLater d d
 same None = tt
@@ -54,12 +56,17 @@ asks false c t = scheduling c t
 pub asking : (c : Clock) (t : Instant) → Forward c (askedOf c t .clock)
 asking c t = asks (hasExpired c t) c t
 
+pub asking-end : (c : Clock) (e : Expiry) → Forward c (askedEnd c e .clock)
+asking-end c (EndsAt t) = asking c t
+asking-end c Forever = unmoved c
+
 waited : (b : Bool) (c : Clock) (t : Instant) → answered b c t .expired ≡ false → NotLater (answered b c t .clock .deadline) (At t)
 waited true c t h = absurd (true≢false h)
 waited false c t h = sooner-forward (c .deadline) t .1
 
 step : (c : Clock) (s : Step) → Forward c (stepped c s)
 step c (ask t) = asking c t
+step c (ask-of e) = asking-end c e
 step c (schedule t) = scheduling c t
 
 all : (c : Clock) (ss : List Step) → Forward c (runs c ss)

@@ -6,8 +6,9 @@ use Prim.Native.Nat.{_≤_}
 use Rattle.time.specs.declared.Instant.{Instant}
 use Rattle.time.specs.declared.Deadline.{Deadline}
 use Rattle.time.specs.declared.Deadline.the-variants.{None, At}
+use Rattle.time.specs.declared.Expiry.{Expiry}
 use Rattle.time.specs.declared.Clock.{Clock}
-use Rattle.time.specs.ClockRules.{scheduledOf, askedOf}
+use Rattle.time.specs.ClockRules.{scheduledOf, askedOf, askedEnd}
 
 -- the first deadline is the second or earlier; no deadline is later than any
 abbrev pub NotLater : Deadline → Deadline → Type 0
@@ -23,10 +24,12 @@ pub record Forward (before after : Clock) : Type 0 where
 -- what a part does with the clock
 pub data Step : Type 0 where
   ask : Instant → Step
+  ask-of : Expiry → Step
   schedule : Instant → Step
 
 abbrev pub stepped : Clock → Step → Clock
 stepped c (ask t) = askedOf c t .clock
+stepped c (ask-of e) = askedEnd c e .clock
 stepped c (schedule t) = scheduledOf c t
 
 unfoldable pub runs : Clock → List Step → Clock

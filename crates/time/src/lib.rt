@@ -1,7 +1,7 @@
 // Points in time, lengths of time, and the clock that one poll lends to each of its parts.
 ghost use mathlib.Core.Path.{_≡_};
 ghost use Prim.Native.Nat.{_*_};
-ghost use Rattle.time.specs.ClockRules.{idle, scheduledOf, askedOf};
+ghost use Rattle.time.specs.ClockRules.{idle, scheduledOf, askedOf, isAfter, askedEnd};
 ghost use Rattle.time.specs.TimeRules.{addOf, secondsOf};
 
 // A point in time, in milliseconds.
@@ -14,6 +14,12 @@ pub struct Duration(pub u64);
 pub enum Deadline {
     None,
     At(Instant),
+}
+
+// When something ends: at a moment, or never.
+pub enum Expiry {
+    At(Instant),
+    Forever,
 }
 
 pub struct Clock {
@@ -94,6 +100,31 @@ pub fn asked(c: Clock, t: Instant) -> Answer
         Answer {
             expired: false,
             clock: k,
+        }
+    }
+}
+
+// The same of an end. What never ends is not waited for.
+pub fn asked_of(clock: Clock, e: Expiry) -> Answer
+    ensures { λ r. ⌜ r ≡ askedEnd clock e ⌝ }
+{
+    match e {
+        Expiry::At(t) => asked(clock, t),
+        Expiry::Forever => Answer {
+            expired: false,
+            clock: clock,
+        },
+    }
+}
+
+impl Expiry {
+    // Whether it is still to come.
+    pub fn is_after(self, now: Instant) -> bool
+        ensures { λ r. ⌜ r ≡ isAfter self now ⌝ }
+    {
+        match self {
+            Expiry::At(t) => now.0 < t.0,
+            Expiry::Forever => true,
         }
     }
 }
