@@ -8,6 +8,7 @@ use lib.ListN.{take, length, getD, replicate}
 use lib.Dec.{ltb, eqb}
 use Rattle.table.specs.Table.{filled, kept, atFirst, anyOf}
 use Rattle.time.specs.declared.Instant.{Instant}
+use Rattle.time.specs.declared.Expiry.the-variants.{Forever, At}
 use Rattle.wire.specs.declared.ipv6.Ipv6Addr.{Ipv6Addr}
 use Rattle.wire.specs.declared.ipv6.Ipv6Cidr.{Ipv6Cidr}
 use Rattle.wire.specs.declared.error.Check.{Check}
@@ -17,7 +18,6 @@ use Rattle.wire.specs.Refusals.{firstRefusal, checkNumber, noSuchIface}
 use Rattle.iface.specs.declared.Outcome.the-variants.{Refused, Done}
 use Rattle.iface.specs.declared.route.RouteOrigin.{RouteOrigin}
 use Rattle.iface.specs.declared.route.RouteOrigin.the-variants.{Manual, Slaac}
-use Rattle.iface.specs.declared.route.Expiry.the-variants.{Forever, At}
 use Rattle.iface.specs.declared.route.Route.{Route}
 use Rattle.iface.specs.declared.route.Routes.{Routes}
 use Rattle.iface.specs.declared.route.AddedRoute.{AddedRoute}
@@ -44,7 +44,7 @@ manualRoute iface c via = record { cidr = c; «via_router» = via; iface = iface
 
 -- what a slot that was never used holds
 abbrev pub noRoute : Route
-noRoute = manualRoute 0 anywhere (record { hi = 0; lo = 0 })
+noRoute = record { cidr = anywhere; «via_router» = record { hi = 0; lo = 0 }; iface = 0; origin = Manual; «expires_at» = At (record { 0 = 0 }) }
 
 abbrev pub emptyRoutes : Routes
 emptyRoutes = record { slots = replicate 8 noRoute; len = 0 }

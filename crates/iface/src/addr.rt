@@ -4,7 +4,7 @@ ghost use Rattle.iface.specs.AddressRules.{addrsOf, withAddrs, emptyAddr
 use crate::Outcome;
 use crate::check_prefix;
 use table::count_of;
-use time::Instant;
+use time::Expiry;
 use wire::error::Check;
 use wire::error::Refusal;
 use wire::ipv6::Ipv6Addr;
@@ -22,8 +22,8 @@ pub enum AddrOrigin {
 pub enum Preferred {
     // The application's: no lifetime was given.
     Always,
-    // Up to that point in time, and not at it.
-    Until(Instant),
+    // Up to that end, and not at it.
+    Until(Expiry),
     // Its time has run out.
     Never,
 }

@@ -5,6 +5,7 @@ ghost use Rattle.iface.specs.RouteRules.{routesOf, withRoutes, emptyRout
 use crate::Outcome;
 use crate::check_prefix;
 use table::count_of;
+use time::Expiry;
 use time::Instant;
 use wire::error::Check;
 use wire::error::Refusal;
@@ -17,12 +18,6 @@ pub enum RouteOrigin {
     Manual,
     // The sync, for a router that advertised itself.
     Slaac,
-}
-
-// How long a route stays.
-pub enum Expiry {
-    Forever,
-    At(Instant),
 }
 
 // Packets for the prefix go to the router, by the interface.
@@ -130,7 +125,13 @@ impl Routes {
     pub fn new() -> Routes
         ensures { λ r. ⌜ r ≡ emptyRoutes ⌝ }
     {
-        let e = Route::manual(0, IPV6_DEFAULT, Ipv6Addr { hi: 0, lo: 0 });
+        let e = Route {
+            cidr: IPV6_DEFAULT,
+            via_router: Ipv6Addr { hi: 0, lo: 0 },
+            iface: 0,
+            origin: RouteOrigin::Manual,
+            expires_at: Expiry::At(Instant(0)),
+        };
         let s = [e; 8];
         Routes { slots: s, len: 0 }
     }
