@@ -12,14 +12,15 @@ use Rattle.learned.specs.declared.Router.{Router}
 use Rattle.learned.specs.declared.Slaac.{Slaac}
 use Rattle.table.proofs.Laws.{Made}
 use Rattle.table.specs.Table.{filled, kept, foldOver}
-use Rattle.time.specs.ClockRules.{askedOf}
+use Rattle.time.specs.ClockRules.{askedEnd}
 use Rattle.time.specs.declared.Answer.{Answer}
 use Rattle.time.specs.declared.Clock.{Clock}
+use Rattle.time.specs.declared.Expiry.{Expiry}
 use Rattle.time.specs.declared.Instant.{Instant}
 
-pub also : (a : Answer) (t : Instant) (r : Answer) → r ≡ askedOf (a .clock) t
-    → _≡_ {A = Answer} (record { expired = a .expired || r .expired; clock = r .clock }) (askAlso a t)
-also a t r e = ap (λ (x : Answer). record { expired = a .expired || x .expired; clock = x .clock }) e
+pub also : (a : Answer) (u : Expiry) (r : Answer) → r ≡ askedEnd (a .clock) u
+    → _≡_ {A = Answer} (record { expired = a .expired || r .expired; clock = r .clock }) (askAlso a u)
+also a u r e = ap (λ (x : Answer). record { expired = a .expired || x .expired; clock = x .clock }) e
 
 pub all-asked : (s : Slaac) (k : Clock) (a b : Answer)
     → a ≡ foldOver askPrefix (record { expired = s .«sync_required»; clock = k }) (prefixesOf s) → b ≡ foldOver askRouter a (routersOf s)

@@ -7,32 +7,34 @@ use Rattle.table.specs.Table.{filled, kept, foldOver}
 use Rattle.time.specs.declared.Instant.{Instant}
 use Rattle.time.specs.declared.Clock.{Clock}
 use Rattle.time.specs.declared.Answer.{Answer}
-use Rattle.time.specs.ClockRules.{askedOf}
+use Rattle.time.specs.declared.Expiry.{Expiry}
+use Rattle.time.specs.declared.Expiry.the-variants.{At}
+use Rattle.time.specs.ClockRules.{isAfter, askedEnd}
 use Rattle.learned.specs.declared.Prefix.{Prefix}
 use Rattle.learned.specs.declared.Router.{Router}
 use Rattle.learned.specs.declared.Slaac.{Slaac}
 use Rattle.learned.specs.LearnedRules.{prefixesOf, routersOf}
 
--- "Valid (valid-until > now)"
+-- "Valid (valid-until > now)", of a router; a prefix's end is `isAfter`
 abbrev pub isValid : Instant → Instant → Bool
 isValid now until = ltb (now .0) (until .0)
 
--- the clock is asked of one time more
-abbrev pub askAlso : Answer → Instant → Answer
-askAlso a t = record { expired = a .expired || askedOf (a .clock) t .expired; clock = askedOf (a .clock) t .clock }
+-- the clock is asked of one end more
+abbrev pub askAlso : Answer → Expiry → Answer
+askAlso a e = record { expired = a .expired || askedEnd (a .clock) e .expired; clock = askedEnd (a .clock) e .clock }
 
 abbrev pub askPrefix : Answer → Prefix → Answer
 askPrefix a p = askAlso a (p .«valid_until»)
 
 abbrev pub askRouter : Answer → Router → Answer
-askRouter a r = askAlso a (r .«valid_until»)
+askRouter a r = askAlso a (At (r .«valid_until»))
 
 -- "Sync follows if asked for, or if any prefix's valid-until or router's time has expired; the clock is first asked of each."
 unfoldable pub syncDue : Slaac → Clock → Answer
 syncDue s k = foldOver askRouter (foldOver askPrefix (record { expired = s .«sync_required»; clock = k }) (prefixesOf s)) (routersOf s)
 
 abbrev pub prefixGone : Instant → Prefix → Bool
-prefixGone now p = not (isValid now (p .«valid_until»))
+prefixGone now p = not (isAfter (p .«valid_until») now)
 
 abbrev pub routerGone : Instant → Router → Bool
 routerGone now r = not (isValid now (r .«valid_until»))

@@ -1,12 +1,14 @@
--- Document 01, "Advertisement", steps 2, 3 and 4: what an advertisement teaches. Assumes nothing.
+-- Document 01, "Advertisement", steps 2, 3 and 4: what an advertisement teaches. Request 2026-01: infinite lifetimes. Assumes nothing.
 use Prim.Native.Nat.{ℕ}
 use mathlib.Core.Bool.{Bool, true, false, cond, _||_, not}
 use mathlib.Core.List.{List, [], _∷_}
 use lib.ListN.{take, length, getD}
-use lib.Dec.{ltb}
+use lib.Dec.{ltb, eqb}
 use Rattle.table.specs.Table.{filled, atFirst, anyOf}
 use Rattle.time.specs.declared.Instant.{Instant}
 use Rattle.time.specs.declared.Duration.{Duration}
+use Rattle.time.specs.declared.Expiry.{Expiry}
+use Rattle.time.specs.declared.Expiry.the-variants.{At, Forever}
 use Rattle.time.specs.TimeRules.{addOf, secondsOf}
 use Rattle.wire.specs.declared.ipv6.Ipv6Addr.{Ipv6Addr}
 use Rattle.wire.specs.declared.ipv6.Ipv6Cidr.{Ipv6Cidr}
@@ -31,7 +33,7 @@ abbrev pub noAddr : Ipv6Addr
 noAddr = record { hi = 0; lo = 0 }
 
 abbrev pub noPrefix : Prefix
-noPrefix = record { cidr = record { address = noAddr; «prefix_len» = 0 }; «preferred_until» = noTime; «valid_until» = noTime }
+noPrefix = record { cidr = record { address = noAddr; «prefix_len» = 0 }; «preferred_until» = At noTime; «valid_until» = At noTime }
 
 abbrev pub noRouter : Router
 noRouter = record { addr = noAddr; «valid_until» = noTime }
@@ -89,13 +91,21 @@ isPrefix c e = sameCidr (e .cidr) c
 abbrev pub cidrOf : PrefixInformation → Ipv6Cidr
 cidrOf o = record { address = o .prefix; «prefix_len» = o .«prefix_len» }
 
+-- RFC 4861, 4.6.2, of both lifetimes: "A value of all one bits (0xffffffff) represents infinity."
+abbrev pub infinite : ℕ
+infinite = 0xffff_ffff
+
+-- request 2026-01: "either a moment or forever"
+abbrev pub untilOf : Instant → ℕ → Expiry
+untilOf now s = cond (eqb s infinite) Forever (At (addOf now (secondsOf s)))
+
 -- the option as an entry: both lifetimes count from now
 abbrev pub prefixOf : PrefixInformation → Instant → Prefix
 prefixOf o now =
     record {
       cidr = cidrOf o;
-      «preferred_until» = addOf now (secondsOf (o .«preferred_lifetime»));
-      «valid_until» = addOf now (secondsOf (o .«valid_lifetime»));
+      «preferred_until» = untilOf now (o .«preferred_lifetime»);
+      «valid_until» = untilOf now (o .«valid_lifetime»);
     }
 
 abbrev pub putOver : {A : Type 0} → A → A → List A
@@ -109,7 +119,7 @@ addPrefix s p =
 
 -- "a match gets both times set to now"
 abbrev pub prefixEnds : Instant → Prefix → List Prefix
-prefixEnds now e = record { cidr = e .cidr; «preferred_until» = now; «valid_until» = now } ∷ []
+prefixEnds now e = record { cidr = e .cidr; «preferred_until» = At now; «valid_until» = At now } ∷ []
 
 unfoldable pub expirePrefix : Slaac → Ipv6Cidr → Instant → Slaac
 expirePrefix s c now =

@@ -2,7 +2,9 @@
 ghost use mathlib.Core.Path.{_≡_};
 ghost use mathlib.Core.Bool.{true, false, not};
 ghost use Prim.Native.Nat.{_<_};
-ghost use Rattle.learned.specs.LearnedRules.{isSkipped, prefixOf, addPrefix, expirePrefix, processPrefix, addRouter, expireRouter, processRouter, heard, storeFlags, prefixAt, routerAt};
+ghost use Rattle.time.specs.declared.Expiry.the-variants.{At};
+ghost use Rattle.time.specs.ClockRules.{isAfter};
+ghost use Rattle.learned.specs.LearnedRules.{isSkipped, untilOf, prefixOf, addPrefix, expirePrefix, processPrefix, addRouter, expireRouter, processRouter, heard, storeFlags, prefixAt, routerAt};
 ghost use Rattle.learned.specs.DiscoveryRules.{due, sent, solicitation, fresh, RestartedTo, TurnedOnTo};
 ghost use Rattle.learned.specs.ExpiryRules.{isValid, askAlso, syncDue, leaveExpired};
 use ndisc::ndiscoption::PrefixInformation;
@@ -10,6 +12,7 @@ use table::count_of;
 use time::Answer;
 use time::Clock;
 use time::Duration;
+use time::Expiry;
 use time::Instant;
 use wire::error::Check;
 use wire::error::Refusal;
@@ -19,8 +22,8 @@ use wire::ipv6::Ipv6Cidr;
 // A prefix that was advertised, and its two times.
 pub struct Prefix {
     pub cidr: Ipv6Cidr,
-    pub preferred_until: Instant,
-    pub valid_until: Instant,
+    pub preferred_until: Expiry,
+    pub valid_until: Expiry,
 }
 
 // A default router: the source of an advertisement.
@@ -107,19 +110,24 @@ fn is_valid_prefix_info(info: PrefixInformation) -> bool
     !(long | !info.addrconf | local | group | more)
 }
 
-// Whether a time is still to come.
-fn is_after(until: Instant, now: Instant) -> bool
-    ensures { λ r. ⌜ r ≡ isValid now until ⌝ }
+// When a prefix's lifetime ends, counted from now.
+fn lifetime_end(seconds: u32, now: Instant) -> Expiry
+    ensures { λ r. ⌜ r ≡ untilOf now seconds ⌝ }
 {
-    until.0 > now.0
+    let d = Duration::from_secs(seconds);
+    let end = now.add(d);
+    if seconds == Prefix::INFINITE_LIFETIME {
+        return Expiry::Forever;
+    }
+    Expiry::At(end)
 }
 
-// The clock is asked of one time more.
-fn ask_also(a: Answer, t: Instant) -> Answer
-    ensures { λ r. ⌜ r ≡ askAlso a t ⌝ }
+// The clock is asked of one end more.
+fn ask_also(a: Answer, e: Expiry) -> Answer
+    ensures { λ r. ⌜ r ≡ askAlso a e ⌝ }
 {
     let k = a.clock;
-    let r = time::asked(k, t);
+    let r = time::asked_of(k, e);
     let c = r.clock;
     Answer {
         expired: a.expired | r.expired,
@@ -128,15 +136,16 @@ fn ask_also(a: Answer, t: Instant) -> Answer
 }
 
 impl Prefix {
+    // All one bits represent infinity (RFC 4861, 4.6.2).
+    pub const INFINITE_LIFETIME: u32 = 0xffff_ffff;
+
     // The prefix of an option that arrives now.
     fn from_prefix(info: PrefixInformation, now: Instant) -> Prefix
         ensures { λ r. ⌜ r ≡ prefixOf info now ⌝ }
     {
         let a = info.prefix;
-        let p = Duration::from_secs(info.preferred_lifetime);
-        let v = Duration::from_secs(info.valid_lifetime);
-        let preferred_until = now.add(p);
-        let valid_until = now.add(v);
+        let preferred_until = lifetime_end(info.preferred_lifetime, now);
+        let valid_until = lifetime_end(info.valid_lifetime, now);
         Prefix {
             cidr: Ipv6Cidr {
                 address: a,
@@ -149,26 +158,26 @@ impl Prefix {
 
     // Whether its address may still be used.
     pub fn is_valid(self, now: Instant) -> bool
-        ensures { λ r. ⌜ r ≡ isValid now (self .«valid_until») ⌝ }
+        ensures { λ r. ⌜ r ≡ isAfter (self .«valid_until») now ⌝ }
     {
-        let t = self.valid_until;
-        is_after(t, now)
+        let e = self.valid_until;
+        e.is_after(now)
     }
 
     // Whether it is still preferred.
     pub fn is_preferred(self, now: Instant) -> bool
-        ensures { λ r. ⌜ r ≡ isValid now (self .«preferred_until») ⌝ }
+        ensures { λ r. ⌜ r ≡ isAfter (self .«preferred_until») now ⌝ }
     {
-        let t = self.preferred_until;
-        is_after(t, now)
+        let e = self.preferred_until;
+        e.is_after(now)
     }
 
     // Whether it has expired, on top of what was answered before.
     fn has_expired(self, before: Answer) -> Answer
         ensures { λ r. ⌜ r ≡ askAlso before (self .«valid_until») ⌝ }
     {
-        let t = self.valid_until;
-        ask_also(before, t)
+        let e = self.valid_until;
+        ask_also(before, e)
     }
 }
 
@@ -178,14 +187,14 @@ impl Router {
         ensures { λ r. ⌜ r ≡ isValid now (self .«valid_until») ⌝ }
     {
         let t = self.valid_until;
-        is_after(t, now)
+        t.0 > now.0
     }
 
     fn has_expired(self, before: Answer) -> Answer
-        ensures { λ r. ⌜ r ≡ askAlso before (self .«valid_until») ⌝ }
+        ensures { λ r. ⌜ r ≡ askAlso before (At (self .«valid_until»)) ⌝ }
     {
         let t = self.valid_until;
-        ask_also(before, t)
+        ask_also(before, Expiry::At(t))
     }
 }
 
@@ -287,8 +296,8 @@ impl Slaac {
                 address: Ipv6Addr { hi: 0, lo: 0 },
                 prefix_len: 0,
             },
-            preferred_until: Instant(0),
-            valid_until: Instant(0),
+            preferred_until: Expiry::At(Instant(0)),
+            valid_until: Expiry::At(Instant(0)),
         };
         let r = Router {
             addr: Ipv6Addr { hi: 0, lo: 0 },
@@ -371,8 +380,8 @@ impl Slaac {
             if c.same(cidr) {
                 let p = Prefix {
                     cidr: c,
-                    preferred_until: now,
-                    valid_until: now,
+                    preferred_until: Expiry::At(now),
+                    valid_until: Expiry::At(now),
                 };
                 let mut s = self;
                 s.prefixes[i] = p;

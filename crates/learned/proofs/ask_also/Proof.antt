@@ -3,11 +3,11 @@ use Rattle.learned.proofs.ExpiryLaws.{also}
 use Rattle.learned.proofs.ask_also.Statement.{statement}
 use Rattle.learned.proofs.ask_also.Tie as tie
 
-asked-requires : tie.Need-asked-requires
-asked-requires c κs = search needs
+asked-of-requires : tie.Need-asked-of-requires
+asked-of-requires c κs = search needs
 
 returns : tie.Need-returns
-returns c = also (c .before .before .before .before .before .args .a) (c .before .before .before .before .before .args .t) _ (c .before .before .before .asked .ensures)
+returns c = also (c .before .before .before .before .before .args .a) (c .before .before .before .before .before .args .e) _ (c .before .before .before .asked-of .ensures)
 
 pub ask-also-spec : {M : Type 1} → statement M
-ask-also-spec = tie.close (tie.spec asked-requires returns)
+ask-also-spec = tie.close (tie.spec asked-of-requires returns)
