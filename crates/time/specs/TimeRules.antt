@@ -11,6 +11,6 @@ lastPoint = 0xffff_ffff_ffff_ffff
 abbrev pub addOf : Instant → Duration → Instant
 addOf t d = record { 0 = min (t .0 + d .0) lastPoint }
 
--- "a lifetime of s seconds, all ones too, is 1,000 s"
+-- "a lifetime of s seconds .. is 1,000 s"; "all ones too" until request 2026-01, which a prefix's lifetimes follow
 abbrev pub secondsOf : ℕ → Duration
 secondsOf s = record { 0 = s * 1000 }
