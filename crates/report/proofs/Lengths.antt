@@ -12,8 +12,6 @@ use Rattle.iface.specs.declared.addr.AddrOrigin.{AddrOrigin}
 use Rattle.iface.specs.declared.addr.IfaceAddr.{IfaceAddr}
 use Rattle.iface.specs.declared.addr.Preferred.the-variants.{Always, Until, Never}
 use Rattle.iface.specs.declared.addr.Preferred.{Preferred}
-use Rattle.iface.specs.declared.route.Expiry.the-variants.{Forever, At}
-use Rattle.iface.specs.declared.route.Expiry.{Expiry}
 use Rattle.iface.specs.declared.route.Route.{Route}
 use Rattle.iface.specs.declared.route.RouteOrigin.the-variants.{Manual as Added, Slaac as Learned}
 use Rattle.iface.specs.declared.route.RouteOrigin.{RouteOrigin}
@@ -23,13 +21,15 @@ use Rattle.neighbor.specs.declared.Entry.{Entry}
 use Rattle.neighbor.specs.declared.State.the-variants.{Started, Incomplete, Reachable, Stale}
 use Rattle.neighbor.specs.declared.State.{State}
 use Rattle.report.specs.AnswerLines.{newline, eachLine, solicitWord, refusedWord, offWord, badWord, retransmitWord, failedWord, solicitLine, refusedLine, offLine, badLine, probeLine, slotLine, probeLines}
-use Rattle.report.specs.StateLines.{headingLine, section, addressField, hardwareField, numberField, prefixLine, routerLine, originField, preferredField, addrLine, routeOriginField, expiryField, routeLine, neighborField, neighborLine, prefixesText, routersText, addressesText, routesText, neighborsText, stateText, reachableWord, staleWord, dashWord, prefixesWord, routersWord, addressesWord, routesWord, neighborsWord}
+use Rattle.report.specs.StateLines.{headingLine, section, addressField, hardwareField, numberField, endField, prefixLine, routerLine, originField, preferredField, addrLine, routeOriginField, expiryField, routeLine, neighborField, neighborLine, prefixesText, routersText, addressesText, routesText, neighborsText, stateText, reachableWord, staleWord, dashWord, prefixesWord, routersWord, addressesWord, routesWord, neighborsWord}
 use Rattle.sweep.specs.declared.Events.{Events}
 use Rattle.sweep.specs.declared.ProbeEvent.the-variants.{Retransmit, Failed}
 use Rattle.sweep.specs.declared.ProbeEvent.{ProbeEvent}
 use Rattle.text.proofs.HexLaws.{hexed-length}
 use Rattle.text.specs.Decimal.{decimalBy, decimal}
 use Rattle.text.specs.Hex.{hexed}
+use Rattle.time.specs.declared.Expiry.the-variants.{At, Forever}
+use Rattle.time.specs.declared.Expiry.{Expiry}
 use Rattle.wire.specs.Rfc2464.{hardwareBytes}
 use Rattle.wire.specs.Rfc4291.{addressBytes}
 use Rattle.wire.specs.declared.ethernet.HardwareAddress.{HardwareAddress}
@@ -113,6 +113,10 @@ number-short : (n : ℕ) → Short (numberField n) 21
 unfolding numberField
 number-short n = then {a = 32 ∷ []} {m = 1} (record { is = omega arith }) (number n)
 
+end-short : (e : Expiry) → Short (endField e) 21
+end-short (At t) = number-short (t .0)
+end-short Forever = record { is = omega arith }
+
 address : (a : Ipv6Addr) → Short (addressField a) 32
 unfolding addressField
 address a = hex-of (addressBytes a) 16 (omega arith)
@@ -124,7 +128,7 @@ hardware a = hex-of (hardwareBytes a) 6 (omega arith)
 prefix-short : (p : Prefix) → Short (prefixLine p) 96
 unfolding prefixLine
 prefix-short p =
-    then (then (then (then (address (p .cidr .address)) (number-short (p .cidr .«prefix_len»))) (number-short (p .«preferred_until» .0))) (number-short (p .«valid_until» .0))) end
+    then (then (then (then (address (p .cidr .address)) (number-short (p .cidr .«prefix_len»))) (end-short (p .«preferred_until»))) (end-short (p .«valid_until»))) end
 
 router-short : (r : Router) → Short (routerLine r) 96
 unfolding routerLine
@@ -136,7 +140,7 @@ origin-short Slaac = record { is = omega arith }
 
 preferred-short : (p : Preferred) → Short (preferredField p) 21
 preferred-short Always = record { is = omega arith }
-preferred-short (Until t) = number-short (t .0)
+preferred-short (Until e) = end-short e
 preferred-short Never = record { is = omega arith }
 
 addr-short : (e : IfaceAddr) → Short (addrLine e) 96

@@ -1,11 +1,13 @@
 -- Document 01: "Then the state", by its fields: "prefix, length, preferred, valid; router, expiry; address, length, origin, preferred (`-`
 -- application's, `never` run out); via, origin, expiry; neighbour, state (`incomplete`, `reachable`, `stale`), hardware address, expiry (`-` if
--- none)". Assumes nothing.
+-- none)". Request 2026-01: "the listing prints `forever`", for a prefix's two times and an address's preferred. Assumes nothing.
 use Prim.Native.Nat.{ℕ}
 use mathlib.Core.List.{List, [], _∷_, _++_}
 use lib.ListN.{length}
 use Rattle.text.specs.Decimal.{decimal}
 use Rattle.text.specs.Hex.{hexed}
+use Rattle.time.specs.declared.Expiry.{Expiry}
+use Rattle.time.specs.declared.Expiry.the-variants.{At, Forever}
 use Rattle.wire.specs.Rfc4291.{addressBytes}
 use Rattle.wire.specs.Rfc2464.{hardwareBytes}
 use Rattle.wire.specs.declared.ipv6.Ipv6Addr.{Ipv6Addr}
@@ -19,8 +21,6 @@ use Rattle.iface.specs.declared.addr.Preferred.the-variants.{Always, Until, Nev
 use Rattle.iface.specs.declared.addr.IfaceAddr.{IfaceAddr}
 use Rattle.iface.specs.declared.route.RouteOrigin.{RouteOrigin}
 use Rattle.iface.specs.declared.route.RouteOrigin.the-variants.{Manual as Added, Slaac as Learned}
-use Rattle.iface.specs.declared.route.Expiry.{Expiry}
-use Rattle.iface.specs.declared.route.Expiry.the-variants.{Forever, At}
 use Rattle.iface.specs.declared.route.Route.{Route}
 use Rattle.neighbor.specs.declared.State.{State}
 use Rattle.neighbor.specs.declared.State.the-variants.{Started, Incomplete, Reachable, Stale}
@@ -55,6 +55,9 @@ slaacWord = 32 ∷ 115 ∷ 108 ∷ 97 ∷ 97 ∷ 99 ∷ []
 abbrev pub neverWord : List ℕ
 neverWord = 32 ∷ 110 ∷ 101 ∷ 118 ∷ 101 ∷ 114 ∷ []
 
+abbrev pub foreverWord : List ℕ
+foreverWord = 32 ∷ 102 ∷ 111 ∷ 114 ∷ 101 ∷ 118 ∷ 101 ∷ 114 ∷ []
+
 abbrev pub dashWord : List ℕ
 dashWord = 32 ∷ 45 ∷ []
 
@@ -85,11 +88,16 @@ hardwareField a = hexed (hardwareBytes a)
 unfoldable pub numberField : ℕ → List ℕ
 numberField n = (32 ∷ []) ++ decimal n
 
+-- "either a moment or forever"
+abbrev pub endField : Expiry → List ℕ
+endField (At t) = numberField (t .0)
+endField Forever = foreverWord
+
 -- "prefix, length, preferred, valid"
 unfoldable pub prefixLine : Prefix → List ℕ
 prefixLine p =
-    (((addressField (p .cidr .address) ++ numberField (p .cidr .«prefix_len»)) ++ numberField (p .«preferred_until» .0))
-    ++ numberField (p .«valid_until» .0)) ++ newline
+    (((addressField (p .cidr .address) ++ numberField (p .cidr .«prefix_len»)) ++ endField (p .«preferred_until»))
+    ++ endField (p .«valid_until»)) ++ newline
 
 -- "router, expiry"
 unfoldable pub routerLine : Router → List ℕ
@@ -102,7 +110,7 @@ originField Slaac = slaacWord
 
 abbrev pub preferredField : Preferred → List ℕ
 preferredField Always = dashWord
-preferredField (Until t) = numberField (t .0)
+preferredField (Until e) = endField e
 preferredField Never = neverWord
 
 unfoldable pub addrLine : IfaceAddr → List ℕ

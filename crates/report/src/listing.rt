@@ -5,12 +5,11 @@ ghost use Rattle.iface.specs.AddressRules.{addrsOf};
 ghost use Rattle.iface.specs.RouteRules.{routesOf};
 ghost use Rattle.neighbor.specs.CacheCalls.{entries};
 ghost use Rattle.report.specs.AnswerLines.{Printed};
-ghost use Rattle.report.specs.StateLines.{headingLine, numberField, prefixLine, routerLine, originField, preferredField, addrLine, routeOriginField, expiryField, routeLine, neighborField, neighborLine, prefixesText, routersText, addressesText, routesText, neighborsText};
+ghost use Rattle.report.specs.StateLines.{headingLine, numberField, endField, prefixLine, routerLine, originField, preferredField, addrLine, routeOriginField, expiryField, routeLine, neighborField, neighborLine, prefixesText, routersText, addressesText, routesText, neighborsText};
 use iface::addr::AddrOrigin;
 use iface::addr::IfaceAddr;
 use iface::addr::IfaceAddrs;
 use iface::addr::Preferred;
-use iface::route::Expiry;
 use iface::route::Route;
 use iface::route::RouteOrigin;
 use iface::route::Routes;
@@ -22,6 +21,7 @@ use neighbor::NeighborCache;
 use neighbor::State;
 use table::count_of;
 use text::print;
+use time::Expiry;
 
 // A table's name and its count.
 fn heading(out: &mut [u8], at: usize, name: &[u8], n: usize) -> usize
@@ -40,15 +40,27 @@ fn number_field(out: &mut [u8], at: usize, n: u64) -> usize
     print::number(out, a, n)
 }
 
+// When something ends, as a further field.
+fn end_field(out: &mut [u8], at: usize, end: Expiry) -> usize
+    ensures { λ r. ⌜ Put (now (out .entry)) at (endField end) r (now (out .exit)) ⌝ }
+{
+    match end {
+        Expiry::At(t) => number_field(out, at, t.0),
+        Expiry::Forever => print::word(out, at, b" forever"),
+    }
+}
+
 // Prefix, length, preferred, valid.
 fn prefix_line(out: &mut [u8], at: usize, p: Prefix) -> usize
     ensures { λ r. ⌜ Put (now (out .entry)) at (prefixLine p) r (now (out .exit)) ⌝ }
 {
     let addr = p.cidr.address;
+    let preferred = p.preferred_until;
+    let valid = p.valid_until;
     let a = print::address(out, at, addr);
     let b = number_field(out, a, p.cidr.prefix_len as u64);
-    let c = number_field(out, b, p.preferred_until.0);
-    let d = number_field(out, c, p.valid_until.0);
+    let c = end_field(out, b, preferred);
+    let d = end_field(out, c, valid);
     print::byte(out, d, b'\n')
 }
 
@@ -104,7 +116,7 @@ fn preferred_field(out: &mut [u8], at: usize, preferred: Preferred) -> usize
 {
     match preferred {
         Preferred::Always => print::word(out, at, b" -"),
-        Preferred::Until(t) => number_field(out, at, t.0),
+        Preferred::Until(end) => end_field(out, at, end),
         Preferred::Never => print::word(out, at, b" never"),
     }
 }

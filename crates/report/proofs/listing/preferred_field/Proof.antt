@@ -17,8 +17,8 @@ word-requires c κs = search needs
 enum-known-preferred : tie.Need-enum-known-preferred
 enum-known-preferred c = search needs
 
-number-field-requires : tie.Need-number-field-requires
-number-field-requires c κs = search needs
+end-field-requires : tie.Need-end-field-requires
+end-field-requires c κs = search needs
 
 enum-told-2 : tie.Need-enum-told-2
 enum-told-2 c = search needs
@@ -39,7 +39,7 @@ same-length-2 : tie.Need-same-length-2
 same-length-2 c = search needs
 
 returns-2 : tie.Need-returns-2
-returns-2 c = put-as (ap preferredField (sym (c .before .before .before .before .before .preferred .given .1))) (c .before .before .number-field .ensures)
+returns-2 c = put-as (ap preferredField (sym (c .before .before .before .before .before .preferred .given .1))) (c .before .before .end-field .ensures)
 
 same-length-3 : tie.Need-same-length-3
 same-length-3 c = search needs
@@ -55,7 +55,7 @@ preferred-field-spec =
     slice-aggregate-word
     word-requires
     enum-known-preferred
-    number-field-requires
+    end-field-requires
     enum-told-2
     slice-aggregate-word-2
     word-requires-2

@@ -13,11 +13,11 @@ cast-number-field c = search needs
 number-field-requires : tie.Need-number-field-requires
 number-field-requires c κs = search needs
 
-number-field-requires-2 : tie.Need-number-field-requires-2
-number-field-requires-2 c κs = search needs
+end-field-requires : tie.Need-end-field-requires
+end-field-requires c κs = search needs
 
-number-field-requires-3 : tie.Need-number-field-requires-3
-number-field-requires-3 c κs = search needs
+end-field-requires-2 : tie.Need-end-field-requires-2
+end-field-requires-2 c κs = search needs
 
 byte-requires : tie.Need-byte-requires
 byte-requires c κs = search needs
@@ -27,7 +27,7 @@ same-length c = search needs
 
 returns : tie.Need-returns
 unfolding prefixLine addressField
-returns c = chain (chain (chain (chain (c .before .before .before .before .before .before .before .before .before .before .before .before .before .before .before .before .before .before .before .address .ensures) (c .before .before .before .before .before .before .before .before .before .before .before .before .before .before .number-field .ensures)) (c .before .before .before .before .before .before .before .before .before .before .number-field2 .ensures)) (c .before .before .before .before .before .before .number-field3 .ensures)) (c .before .before .byte .ensures)
+returns c = chain (chain (chain (chain (c .before .before .before .before .before .before .before .before .before .before .before .before .before .before .before .before .before .before .before .address .ensures) (c .before .before .before .before .before .before .before .before .before .before .before .before .before .before .number-field .ensures)) (c .before .before .before .before .before .before .before .before .before .before .end-field .ensures)) (c .before .before .before .before .before .before .end-field2 .ensures)) (c .before .before .byte .ensures)
 
 pub prefix-line-spec : {M : Type 1} → statement M
 prefix-line-spec =
@@ -36,8 +36,8 @@ prefix-line-spec =
     address-requires
     cast-number-field
     number-field-requires
-    number-field-requires-2
-    number-field-requires-3
+    end-field-requires
+    end-field-requires-2
     byte-requires
     same-length
     returns)
