@@ -22,6 +22,7 @@ use Rattle.learned.specs.declared.Router.{Router}
 use Rattle.slaac.specs.SyncRules.{preferredOf, syncFormed, syncPrefix, syncRouter}
 use Rattle.table.proofs.Laws.{Made, take-count, counted, Finding, finding, find-next, found-over, found-stays, absent-end, absent-stays}
 use Rattle.table.specs.Table.{filled, atFirst}
+use Rattle.time.specs.ClockRules.{isAfter}
 use Rattle.time.specs.declared.Instant.{Instant}
 use Rattle.wire.specs.Rfc2464.{formedOf}
 use Rattle.wire.specs.declared.ethernet.HardwareAddress.{HardwareAddress}
@@ -101,13 +102,13 @@ module _ (hw : HardwareAddress) (now : Instant) (t : IfaceAddrs) (p : Prefix) wh
   addr-put a q s m w = addrs-made t _ s m w
 
   pub sync-put : (a : Ipv6Cidr) (q : Preferred) (s : List IfaceAddr) (m : ℕ) → formedOf hw (p .cidr) ≡ Addr a
-      → isValid now (p .«valid_until») ≡ true → q ≡ preferredOf now (p .«preferred_until»)
+      → isAfter (p .«valid_until») now ≡ true → q ≡ preferredOf now (p .«preferred_until»)
       → Put (isAddr a) (refreshed q) (slaacAddr a q) (t .slots) (t .len) s m
       → _≡_ {A = IfaceAddrs} (record { slots = s; len = m }) (syncPrefix hw now t p)
   unfolding syncPrefix
   sync-put a q s m e v f w = simp (e, v) (addr-put a q s m w ∙ ap (λ (x : Preferred). withAddrs t (putAddr a x (addrsOf t))) f)
 
-  pub sync-drop : (a : Ipv6Cidr) (r : IfaceAddrs) → formedOf hw (p .cidr) ≡ Addr a → isValid now (p .«valid_until») ≡ false
+  pub sync-drop : (a : Ipv6Cidr) (r : IfaceAddrs) → formedOf hw (p .cidr) ≡ Addr a → isAfter (p .«valid_until») now ≡ false
       → r ≡ withAddrs t (dropAddr a (addrsOf t)) → r ≡ syncPrefix hw now t p
   unfolding syncPrefix
   sync-drop a r e v g = simp (e, v) g

@@ -3,6 +3,8 @@ use Prim.Native.Nat.{ℕ}
 use mathlib.Core.Bool.{cond}
 use Rattle.table.specs.Table.{foldOver}
 use Rattle.time.specs.declared.Instant.{Instant}
+use Rattle.time.specs.declared.Expiry.{Expiry}
+use Rattle.time.specs.ClockRules.{isAfter}
 use Rattle.wire.specs.declared.ethernet.HardwareAddress.{HardwareAddress}
 use Rattle.wire.specs.declared.ipv6.Formed.{Formed}
 use Rattle.wire.specs.declared.ipv6.Formed.the-variants.{Nothing, Addr}
@@ -19,16 +21,16 @@ use Rattle.learned.specs.declared.Slaac.{Slaac}
 use Rattle.learned.specs.LearnedRules.{prefixesOf, routersOf}
 use Rattle.learned.specs.ExpiryRules.{isValid}
 
--- "Preferred is Until(t) if t > now, else Never."
-abbrev pub preferredOf : Instant → Instant → Preferred
-preferredOf now t = cond (isValid now t) (Until t) Never
+-- "Preferred is Until(t) if t > now, else Never."; request 2026-01: "The address table takes the same shape"
+abbrev pub preferredOf : Instant → Expiry → Preferred
+preferredOf now e = cond (isAfter e now) (Until e) Never
 
 -- "Valid (valid-until > now): a SLAAC entry of that address and length 64 takes the new preferred time, an application's entry stays, and a
 -- missing one is appended if there is room." "Expired: a SLAAC entry goes and later ones move down."
 abbrev pub syncFormed : Formed → Instant → IfaceAddrs → Prefix → IfaceAddrs
 syncFormed Nothing now t p = t
 syncFormed (Addr a) now t p =
-    cond (isValid now (p .«valid_until»))
+    cond (isAfter (p .«valid_until») now)
     (withAddrs t (putAddr a (preferredOf now (p .«preferred_until»)) (addrsOf t)))
     (withAddrs t (dropAddr a (addrsOf t)))
 

@@ -7,7 +7,7 @@ is-preferred-requires : tie.Need-is-preferred-requires
 is-preferred-requires c κs = search needs
 
 returns : tie.Need-returns
-returns c = simp (sym (c .before .before .is-preferred .ensures) ∙ c .before .if1 .taken)
+returns c = simp (sym (c .before .is-preferred .ensures) ∙ c .if1 .taken)
 
 returns-2 : tie.Need-returns-2
 returns-2 c = simp (sym (c .before .is-preferred .ensures) ∙ c .if1 .left)
