@@ -3,6 +3,7 @@ use Rattle.claims.proofs.Caches.{on-caches}
 use Rattle.claims.proofs.Clocks.{clocks}
 use Rattle.claims.proofs.Demand3.{demand3}
 use Rattle.claims.proofs.Early.{not-early}
+use Rattle.claims.proofs.Endless.{endless}
 use Rattle.claims.proofs.Examples.{examples}
 use Rattle.claims.proofs.Lasting.{lasting}
 use Rattle.claims.proofs.Places.{places}
@@ -19,6 +20,7 @@ claims = record {
   clocks = clocks;
   not-early = not-early;
   lasting = lasting;
+  endless = endless;
   examples = examples;
   round-trips = round-trips;
 }

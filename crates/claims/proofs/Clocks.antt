@@ -33,7 +33,7 @@ use Rattle.sweep.specs.SweepCalls.{sweptIn, sweepBy, sweepCheck}
 use Rattle.sweep.specs.SweepRules.{dueFrom, expireClockState, expireClock, expireClocks}
 use Rattle.sweep.specs.declared.Swept.{Swept}
 use Rattle.table.specs.Table.{foldOver}
-use Rattle.time.proofs.Forward.{unmoved, then, scheduling, asking}
+use Rattle.time.proofs.Forward.{unmoved, then, scheduling, asking, asking-end}
 use Rattle.time.specs.ClockRules.{scheduledOf}
 use Rattle.time.specs.Forward.{Forward}
 use Rattle.time.specs.declared.Answer.{Answer}
@@ -98,7 +98,7 @@ turn-forward d (From a) buf k = solicit-forward d k
 prefixes-forward : (ps : List Prefix) (a : Answer) → Forward (a .clock) (foldOver askPrefix a ps .clock)
 prefixes-forward [] a = unmoved (a .clock)
 prefixes-forward (p ∷ ps) a =
-    then (a .clock) (askPrefix a p .clock) (foldOver askPrefix (askPrefix a p) ps .clock) (asking (a .clock) (p .«valid_until»)) (prefixes-forward ps (askPrefix a p))
+    then (a .clock) (askPrefix a p .clock) (foldOver askPrefix (askPrefix a p) ps .clock) (asking-end (a .clock) (p .«valid_until»)) (prefixes-forward ps (askPrefix a p))
 
 routers-forward : (rs : List Router) (a : Answer) → Forward (a .clock) (foldOver askRouter a rs .clock)
 routers-forward [] a = unmoved (a .clock)

@@ -5,7 +5,7 @@ use mathlib.Core.List.{List, [], _∷_, _++_}
 use mathlib.Core.Path.{_≡_, refl, sym, _∙_, subst}
 use native.Mathlib.Omega.{arith}
 use Rattle.claims.proofs.Standing.{entries-with, put-stands, drop-stands, add-stands, process-lasts, leave-lasts, router-apart, put-route-stands, drop-route-stands, clear-route-stands, add-route-stands, process-router, leave-router, prefix-apart, expired-other, expired-router}
-use Rattle.claims.specs.Early.{All, Host, HostCall, advertise, poll, restart, turnOn, addAddr, addRoute, turnOff, pollElsewhere, offElsewhere, Step, advertised, polled, polled-at, restarted, turned-on, addr-added, route-added, turned-off, polled-elsewhere, polled-at-elsewhere, off-elsewhere, Run, none, one-more, Before, stands, LastsTo, Spares, Harmless, Silent, routeStands, RouterLastsTo, RouterSpares, HarmlessTo, SilentTo, NotEarly}
+use Rattle.claims.specs.Early.{All, Host, HostCall, advertise, poll, restart, turnOn, addAddr, addRoute, turnOff, pollElsewhere, offElsewhere, Step, advertised, polled, polled-at, restarted, turned-on, addr-added, route-added, turned-off, polled-elsewhere, polled-at-elsewhere, off-elsewhere, Run, none, one-more, Before, stands, Earlier, Reaches, LastsTo, Spares, Harmless, Silent, routeStands, RouterLastsTo, RouterSpares, HarmlessTo, SilentTo, NotEarly}
 use Rattle.iface.specs.AddressRules.{addrsOf, withAddrs, manualAddr, addAddrBy, addrCheck, putAddr, dropAddr}
 use Rattle.iface.specs.RouteRules.{routesOf, withRoutes, manualRoute, addRouteBy, routeCheck, putRoute, dropRoute, clearRoutes}
 use Rattle.iface.specs.declared.addr.Added.{Added}
@@ -40,8 +40,11 @@ use Rattle.slaac.specs.declared.PolledAt.{PolledAt}
 use Rattle.slaac.specs.declared.Turn.{Turn}
 use Rattle.slaac.specs.declared.TurnedOff.{TurnedOff}
 use Rattle.table.specs.Table.{foldOver}
+use Rattle.time.specs.ClockRules.{isAfter}
 use Rattle.time.specs.TimeRules.{secondsOf}
 use Rattle.time.specs.declared.Clock.{Clock}
+use Rattle.time.specs.declared.Expiry.the-variants.{At, Forever}
+use Rattle.time.specs.declared.Expiry.{Expiry}
 use Rattle.time.specs.declared.Instant.{Instant}
 use Rattle.wire.specs.Rfc2464.{formedOf}
 use Rattle.wire.specs.declared.error.Check.the-variants.{Fine, Refused as Fails}
@@ -54,7 +57,7 @@ use Rattle.wire.specs.declared.ipv6.Ipv6Cidr.{Ipv6Cidr}
 
 -- Addresses
 
-module _ (v : ℕ) (hw : HardwareAddress) (a : Ipv6Cidr) where
+module _ (v : Expiry) (hw : HardwareAddress) (a : Ipv6Cidr) where
   abbrev lasts : Prefix → Type 0
   lasts = LastsTo v hw a
 
@@ -62,11 +65,11 @@ module _ (v : ℕ) (hw : HardwareAddress) (a : Ipv6Cidr) where
   stands-with t es h = rw (entries-with (t .slots) es) h
 
   -- a sync before v
-  sync-one : (now : Instant) → now .0 < v → (t : IfaceAddrs) (p : Prefix) → lasts p → stands a (addrsOf t) ≡ true → stands a (addrsOf (syncPrefix hw now t p)) ≡ true
+  sync-one : (now : Instant) → Earlier v now → (t : IfaceAddrs) (p : Prefix) → lasts p → stands a (addrsOf t) ≡ true → stands a (addrsOf (syncPrefix hw now t p)) ≡ true
   unfolding syncPrefix
   sync-one now early t p l h = go (formedOf hw (p .cidr)) refl
     where
-      at : (c : Ipv6Cidr) → formedOf hw (p .cidr) ≡ Addr c → (b : Bool) → isValid now (p .«valid_until») ≡ b
+      at : (c : Ipv6Cidr) → formedOf hw (p .cidr) ≡ Addr c → (b : Bool) → isAfter (p .«valid_until») now ≡ b
           → stands a (addrsOf (cond {A = IfaceAddrs} b (withAddrs t (putAddr c (preferredOf now (p .«preferred_until»)) (addrsOf t))) (withAddrs t (dropAddr c (addrsOf t))))) ≡ true
       at c f true e =
           stands-with t (putAddr c (preferredOf now (p .«preferred_until»)) (addrsOf t)) (put-stands a c (preferredOf now (p .«preferred_until»)) (addrsOf t) h)
@@ -74,9 +77,9 @@ module _ (v : ℕ) (hw : HardwareAddress) (a : Ipv6Cidr) where
 
       go : (f : Formed) → formedOf hw (p .cidr) ≡ f → stands a (addrsOf (syncFormed f now t p)) ≡ true
       go Nothing f = h
-      go (Addr c) f = at c f (isValid now (p .«valid_until»)) refl
+      go (Addr c) f = at c f (isAfter (p .«valid_until») now) refl
 
-  sync-each : (now : Instant) → now .0 < v → (ps : List Prefix) (t : IfaceAddrs) → All lasts ps → stands a (addrsOf t) ≡ true
+  sync-each : (now : Instant) → Earlier v now → (ps : List Prefix) (t : IfaceAddrs) → All lasts ps → stands a (addrsOf t) ≡ true
       → stands a (addrsOf (foldOver (syncPrefix hw now) t ps)) ≡ true
   sync-each now early [] t l h = h
   sync-each now early (p ∷ ps) t l h = sync-each now early ps (syncPrefix hw now t p) (l .1) (sync-one now early t p (l .0) h)
@@ -113,7 +116,7 @@ module _ (v : ℕ) (hw : HardwareAddress) (a : Ipv6Cidr) where
       go true = good-advert (messageCheck source msg) s t c i source msg now h g
       go false = g
 
-  good-sync : (s : Slaac) (t : IfaceAddrs) (r : Routes) (i : ℕ) (now : Instant) (k : Clock) (w : PollAnswer) → now .0 < v → Good s t
+  good-sync : (s : Slaac) (t : IfaceAddrs) (r : Routes) (i : ℕ) (now : Instant) (k : Clock) (w : PollAnswer) → Earlier v now → Good s t
       → Good (syncTurn s t r i hw now k w .polled .slaac) (syncTurn s t r i hw now k w .polled .addrs)
   unfolding syncTurn syncAddrs
   good-sync s t r i now k w early g = go (syncDue s k .expired)
@@ -127,7 +130,7 @@ module _ (v : ℕ) (hw : HardwareAddress) (a : Ipv6Cidr) where
       go true = record { there = sync-each now early (prefixesOf s) t (g .long) (g .there); long = leave-lasts v hw a now s (g .long) }
       go false = g
 
-  good-poll : (x : Check) (s : Slaac) (t : IfaceAddrs) (r : Routes) (i : ℕ) (up : Bool) (buf : List ℕ) (k : Clock) → k .now .0 < v → Good s t
+  good-poll : (x : Check) (s : Slaac) (t : IfaceAddrs) (r : Routes) (i : ℕ) (up : Bool) (buf : List ℕ) (k : Clock) → Earlier v (k .now) → Good s t
       → Good (pollBy x s t r i up hw buf k .polled .slaac) (pollBy x s t r i up hw buf k .polled .addrs)
   unfolding pollOn
   good-poll (Fails why) s t r i up buf k early g = g
@@ -424,44 +427,48 @@ module _ (v : ℕ) (via : Ipv6Addr) where
 -- The claim
 
 -- calls before v, by what their advertisements are
-before-map : (v : ℕ) (P Q : Ipv6Addr → List ℕ → Instant → Type 0) → ((source : Ipv6Addr) (msg : List ℕ) (now : Instant) → P source msg now → Q source msg now)
-    → (c : HostCall) → Before v P c → Before v Q c
-before-map v P Q f (advertise source msg now) h = f source msg now h
-before-map v P Q f (poll now) h = h
-before-map v P Q f restart h = h
-before-map v P Q f turnOn h = h
-before-map v P Q f addAddr h = h
-before-map v P Q f addRoute h = h
-before-map v P Q f turnOff h = h
-before-map v P Q f pollElsewhere h = h
-before-map v P Q f offElsewhere h = h
+before-map : (early : Instant → Type 0) (P Q : Ipv6Addr → List ℕ → Instant → Type 0) → ((source : Ipv6Addr) (msg : List ℕ) (now : Instant) → P source msg now → Q source msg now)
+    → (c : HostCall) → Before early P c → Before early Q c
+before-map early P Q f (advertise source msg now) h = f source msg now h
+before-map early P Q f (poll now) h = h
+before-map early P Q f restart h = h
+before-map early P Q f turnOn h = h
+before-map early P Q f addAddr h = h
+before-map early P Q f addRoute h = h
+before-map early P Q f turnOff h = h
+before-map early P Q f pollElsewhere h = h
+before-map early P Q f offElsewhere h = h
 
 -- an advertisement that names no prefix that forms the address spares it, whatever the time
-silent-harmless : (v : ℕ) (hw : HardwareAddress) (a : Ipv6Cidr) (c : HostCall) → Silent v hw a c → Harmless v hw a c
+silent-harmless : (v : Expiry) (hw : HardwareAddress) (a : Ipv6Cidr) (c : HostCall) → Silent v hw a c → Harmless v hw a c
 silent-harmless v hw a c h =
-    before-map v _ (λ source msg now. All (Spares v hw a now) (prefixOptions (optionsIn msg)))
+    before-map (Earlier v) _ (λ source msg now. All (Spares v hw a now) (prefixOptions (optionsIn msg)))
     (λ source msg now g. all-map _ (Spares v hw a now) (λ o n e f. absurd (n (e, f))) (prefixOptions (optionsIn msg)) g) c h
 
 silent-router : (v : ℕ) (via : Ipv6Addr) (c : HostCall) → SilentTo v via c → HarmlessTo v via c
 silent-router v via c h =
-    before-map v _ (λ source msg now. RouterSpares v via now source (secondsOf (routerAdvertAt msg .«router_lifetime»)))
+    before-map (λ now. now .0 < v) _ (λ source msg now. RouterSpares v via now source (secondsOf (routerAdvertAt msg .«router_lifetime»)))
     (λ source msg now g e. absurd (true≢false (sym e ∙ g))) c h
 
 router-ends : (p q : Router) → q ≡ p → p .«valid_until» .0 ≤ q .«valid_until» .0
 router-ends p q same = rw same (omega arith)
 
-ends : (p q : Prefix) → q ≡ p → p .«valid_until» .0 ≤ q .«valid_until» .0
-ends p q same = rw same (omega arith)
+reaches-itself : (v : Expiry) → Reaches v v
+reaches-itself (At v) = omega arith
+reaches-itself Forever = tt
+
+ends : (p q : Prefix) → q ≡ p → Reaches (p .«valid_until») (q .«valid_until»)
+ends p q same = rw same (reaches-itself (p .«valid_until»))
 
 pub not-early : NotEarly
 not-early = record {
   address = λ i hw a v x y cs r h l q. good-run v hw a r q (record { there = h; long = l }) .there;
   address-of =
       λ i hw a p x y cs r h o q.
-      good-run (p .«valid_until» .0) hw a r (all-map (Silent (p .«valid_until» .0) hw a) (Harmless (p .«valid_until» .0) hw a) (silent-harmless (p .«valid_until» .0) hw a) cs q)
+      good-run (p .«valid_until») hw a r (all-map (Silent (p .«valid_until») hw a) (Harmless (p .«valid_until») hw a) (silent-harmless (p .«valid_until») hw a) cs q)
       (record {
         there = h;
-        long = all-map _ (LastsTo (p .«valid_until» .0) hw a) (λ q f e. ends p q (f e)) (prefixesOf (x .slaac)) o;
+        long = all-map _ (LastsTo (p .«valid_until») hw a) (λ q f e. ends p q (f e)) (prefixesOf (x .slaac)) o;
       }) .there;
   route = λ i hw via v x y cs r h l q. held-run v via r q (record { there = h; long = l }) .there;
   route-of =

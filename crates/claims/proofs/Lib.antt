@@ -14,4 +14,5 @@ pub mod Standing
 pub mod Early
 pub mod Examples
 pub mod Lasting
+pub mod Endless
 pub mod RoundTrips

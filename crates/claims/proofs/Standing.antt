@@ -1,5 +1,5 @@
 -- What keeps an address, a route, a prefix and a router in their tables. Assumes nothing.
-use Prim.Native.Nat.{ℕ, _+_, _*_, _≤_, _<_, min}
+use Prim.Native.Nat.{ℕ, _+_, _≤_, _<_, min}
 use borrow.Author.Tests.{eqb-true, eq-eqb, ltb-false}
 use lib.Dec.{eqb, ltb}
 use lib.ListN.{length, take, drop}
@@ -8,22 +8,25 @@ use mathlib.Core.Bool.{Bool, true, false, cond, _&&_, true≢false}
 use mathlib.Core.List.{List, [], _∷_, _++_}
 use mathlib.Core.Path.{_≡_, refl, sym, ap, _∙_, subst}
 use native.Mathlib.Omega.{arith}
-use Rattle.claims.specs.Early.{All, stands, LastsTo, Spares, routeStands, RouterLastsTo, RouterSpares}
+use Rattle.claims.specs.Early.{All, stands, Earlier, Reaches, LastsTo, Spares, routeStands, RouterLastsTo, RouterSpares}
 use Rattle.iface.specs.AddressRules.{isAddr, isFromSlaac, slaacAddr, refreshed, gone, putAddr, dropAddr, anywhere}
 use Rattle.iface.specs.RouteRules.{isSlaac, isRoute, isInstalled, isLearned, extended, noneLeft, putRoute, dropRoute, clearRoutes}
 use Rattle.iface.specs.declared.addr.IfaceAddr.{IfaceAddr}
 use Rattle.iface.specs.declared.addr.Preferred.{Preferred}
 use Rattle.iface.specs.declared.route.Route.{Route}
 use Rattle.learned.specs.ExpiryRules.{isValid, prefixGone, routerGone, leaveExpired}
-use Rattle.learned.specs.LearnedRules.{prefixesOf, routersOf, ifRoom, isSkipped, isPrefix, cidrOf, prefixOf, putOver, addPrefix, prefixEnds, expirePrefix, processPrefix, isRouter, addRouter, routerEnds, expireRouter, processRouter}
+use Rattle.learned.specs.LearnedRules.{prefixesOf, routersOf, ifRoom, isSkipped, isPrefix, cidrOf, infinite, untilOf, prefixOf, putOver, addPrefix, prefixEnds, expirePrefix, processPrefix, isRouter, addRouter, routerEnds, expireRouter, processRouter}
 use Rattle.learned.specs.declared.Prefix.{Prefix}
 use Rattle.learned.specs.declared.Router.{Router}
 use Rattle.learned.specs.declared.Slaac.{Slaac}
 use Rattle.ndisc.specs.declared.ndiscoption.PrefixInformation.{PrefixInformation}
 use Rattle.neighbor.proofs.Keys.{and-true}
 use Rattle.table.specs.Table.{filled, kept, atFirst, anyOf}
-use Rattle.time.specs.TimeRules.{addOf}
+use Rattle.time.specs.ClockRules.{isAfter}
+use Rattle.time.specs.TimeRules.{addOf, secondsOf}
 use Rattle.time.specs.declared.Duration.{Duration}
+use Rattle.time.specs.declared.Expiry.the-variants.{At, Forever}
+use Rattle.time.specs.declared.Expiry.{Expiry}
 use Rattle.time.specs.declared.Instant.{Instant}
 use Rattle.wire.specs.Rfc2464.{formedOf}
 use Rattle.wire.specs.Rfc4291.{sameAddr, sameCidr}
@@ -136,7 +139,16 @@ entries-with s xs = take-at xs (drop (length xs) s) (length xs) refl
 all-with : {A : Type 0} (P : A → Type 0) (s xs : List A) → All P xs → All P (take (length xs) (filled s xs))
 all-with P s xs h = rw (entries-with s xs) h
 
-module _ (v : ℕ) (hw : HardwareAddress) (a : Ipv6Cidr) where
+-- a lifetime of 0 that reaches v from now: now does
+at-once : (v : Expiry) (now : Instant) (s : ℕ) → s ≤ 0 → Reaches v (untilOf now s) → Reaches v (At now)
+at-once v now s z h = go v (eqb s infinite) refl h
+  where
+    go : (v : Expiry) (b : Bool) → eqb s infinite ≡ b → Reaches v (cond b Forever (At (addOf now (secondsOf s)))) → Reaches v (At now)
+    go v true e r = absurd (omega (arith, eqb-true s infinite e))
+    go (At u) false e r = omega arith
+    go Forever false e r = r
+
+module _ (v : Expiry) (hw : HardwareAddress) (a : Ipv6Cidr) where
   abbrev lasts : Prefix → Type 0
   lasts = LastsTo v hw a
 
@@ -146,7 +158,7 @@ module _ (v : ℕ) (hw : HardwareAddress) (a : Ipv6Cidr) where
       all-with lasts (s .prefixes) (atFirst (isPrefix (p .cidr)) (putOver p) (ifRoom 4 (prefixesOf s) p) (prefixesOf s))
       (all-first lasts (isPrefix (p .cidr)) (putOver p) (ifRoom 4 (prefixesOf s) p) (prefixesOf s) h (all-if lasts (ltb (length (prefixesOf s)) 4) p g) (λ x e q. (g, tt)))
 
-  expire-lasts : (s : Slaac) (c : Ipv6Cidr) (now : Instant) → All lasts (prefixesOf s) → (formedOf hw c ≡ Addr a → v ≤ now .0)
+  expire-lasts : (s : Slaac) (c : Ipv6Cidr) (now : Instant) → All lasts (prefixesOf s) → (formedOf hw c ≡ Addr a → Reaches v (At now))
       → All lasts (prefixesOf (expirePrefix s c now))
   unfolding expirePrefix
   expire-lasts s c now h g =
@@ -159,14 +171,11 @@ module _ (v : ℕ) (hw : HardwareAddress) (a : Ipv6Cidr) where
   unfolding processPrefix
   process-lasts now s o h g = go (isSkipped o) (ltb 0 (o .«valid_lifetime»)) refl refl
     where
-      at-once : o .«valid_lifetime» ≤ 0 → v ≤ min (now .0 + o .«valid_lifetime» * 1000) 0xffff_ffff_ffff_ffff → v ≤ now .0
-      at-once z e = omega arith
-
       go : (x y : Bool) → isSkipped o ≡ x → ltb 0 (o .«valid_lifetime») ≡ y
           → All lasts (prefixesOf (cond {A = Slaac} x s (cond {A = Slaac} y (addPrefix s (prefixOf o now)) (expirePrefix s (cidrOf o) now))))
       go true y ex ey = h
       go false true ex ey = add-lasts s (prefixOf o now) h (g ex)
-      go false false ex ey = expire-lasts s (cidrOf o) now h (λ f. at-once (ltb-false 0 (o .«valid_lifetime») ey) (g ex f))
+      go false false ex ey = expire-lasts s (cidrOf o) now h (λ f. at-once v now (o .«valid_lifetime») (ltb-false 0 (o .«valid_lifetime») ey) (g ex f))
 
   pub leave-lasts : (now : Instant) (s : Slaac) → All lasts (prefixesOf s) → All lasts (prefixesOf (leaveExpired now s))
   unfolding leaveExpired
@@ -305,14 +314,17 @@ module _ (v : ℕ) (via : Ipv6Addr) where
 -- The sync, before v
 
 -- an expired prefix forms another address
-pub expired-other : (v : ℕ) (hw : HardwareAddress) (a c : Ipv6Cidr) (now : Instant) (p : Prefix) → now .0 < v → LastsTo v hw a p
-    → formedOf hw (p .cidr) ≡ Addr c → isValid now (p .«valid_until») ≡ false → sameCidr c a ≡ false
+outlasts : (v e : Expiry) (now : Instant) → Earlier v now → Reaches v e → isAfter e now ≡ false → ⊥
+outlasts v Forever now early long h = true≢false h
+outlasts (At v) (At e) now early long h = omega (arith, ltb-false (now .0) (e .0) h)
+outlasts Forever (At e) now early long h = long
+
+pub expired-other : (v : Expiry) (hw : HardwareAddress) (a c : Ipv6Cidr) (now : Instant) (p : Prefix) → Earlier v now → LastsTo v hw a p
+    → formedOf hw (p .cidr) ≡ Addr c → isAfter (p .«valid_until») now ≡ false → sameCidr c a ≡ false
 expired-other v hw a c now p early lasts f e = go (sameCidr c a) refl
   where
     go : (b : Bool) → sameCidr c a ≡ b → b ≡ false
-    go true q =
-        let long : v ≤ p .«valid_until» .0 = lasts (f ∙ ap Addr (same-cidr c a q)) in
-        absurd (omega (arith, ltb-false (now .0) (p .«valid_until» .0) e))
+    go true q = absurd (outlasts v (p .«valid_until») now early (lasts (f ∙ ap Addr (same-cidr c a q))) e)
     go false q = refl
 
 -- an expired router is another

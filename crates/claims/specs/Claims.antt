@@ -7,6 +7,7 @@ use Rattle.claims.specs.Clocks.{Clocks}
 use Rattle.claims.specs.Early.{NotEarly}
 use Rattle.claims.specs.Examples.{Examples}
 use Rattle.claims.specs.Lasting.{Lasting}
+use Rattle.claims.specs.Endless.{Endless}
 use Rattle.claims.specs.RoundTrips.{RoundTrips}
 
 pub record Claims : Type 1 where
@@ -24,6 +25,8 @@ pub record Claims : Type 1 where
   pub not-early : NotEarly
   -- That time is met to the millisecond: the state of document 01's event file, polled before it and at it.
   pub lasting : Lasting
+  -- Or there is none: a prefix of all ones keeps its address at the last poll that there can be, and nobody waits for its end.
+  pub endless : Endless
   -- Document 01's worked examples.
   pub examples : Examples
   -- What is written or printed reads back as it was, and nothing beside it changes.

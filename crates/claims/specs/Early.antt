@@ -6,6 +6,8 @@ use mathlib.Core.List.{List, [], _∷_}
 use Rattle.table.specs.Table.{anyOf, firstOf}
 use Rattle.time.specs.declared.Instant.{Instant}
 use Rattle.time.specs.declared.Duration.{Duration}
+use Rattle.time.specs.declared.Expiry.{Expiry}
+use Rattle.time.specs.declared.Expiry.the-variants.{At, Forever}
 use Rattle.time.specs.declared.Clock.{Clock}
 use Rattle.time.specs.TimeRules.{addOf, secondsOf}
 use Rattle.wire.specs.declared.ipv6.Ipv6Addr.{Ipv6Addr}
@@ -99,18 +101,18 @@ pub data Run (i : ℕ) (hw : HardwareAddress) : Host → List HostCall → Host 
   none : (x : Host) → Run i hw x [] x
   one-more : {x y z : Host} {c : HostCall} {cs : List HostCall} → Step i hw x c y → Run i hw y cs z → Run i hw x (c ∷ cs) z
 
--- A call before v: a poll, if its now is, an advertisement that is as `spares` says, and any other but turning SLAAC off on the
+-- A call in time: a poll, if its now is as `early` says, an advertisement that is as `spares` says, and any other but turning SLAAC off on the
 -- interface itself, which "removes its addresses and routes"
-abbrev pub Before : ℕ → (Ipv6Addr → List ℕ → Instant → Type 0) → HostCall → Type 0
-Before v spares (advertise source msg now) = spares source msg now
-Before v spares (poll now) = now .0 < v
-Before v spares restart = Unit {0}
-Before v spares turnOn = Unit {0}
-Before v spares addAddr = Unit {0}
-Before v spares addRoute = Unit {0}
-Before v spares turnOff = ⊥
-Before v spares pollElsewhere = Unit {0}
-Before v spares offElsewhere = Unit {0}
+abbrev pub Before : (Instant → Type 0) → (Ipv6Addr → List ℕ → Instant → Type 0) → HostCall → Type 0
+Before early spares (advertise source msg now) = spares source msg now
+Before early spares (poll now) = early now
+Before early spares restart = Unit {0}
+Before early spares turnOn = Unit {0}
+Before early spares addAddr = Unit {0}
+Before early spares addRoute = Unit {0}
+Before early spares turnOff = ⊥
+Before early spares pollElsewhere = Unit {0}
+Before early spares offElsewhere = Unit {0}
 
 -- Addresses
 
@@ -118,23 +120,34 @@ Before v spares offElsewhere = Unit {0}
 abbrev pub stands : Ipv6Cidr → List IfaceAddr → Bool
 stands a es = firstOf (isAddr a) isFromSlaac false es
 
+-- before v; forever is after all
+abbrev pub Earlier : Expiry → Instant → Type 0
+Earlier (At v) now = now .0 < v .0
+Earlier Forever now = Unit {0}
+
+-- v or longer
+abbrev pub Reaches : Expiry → Expiry → Type 0
+Reaches v Forever = Unit {0}
+Reaches (At v) (At e) = v .0 ≤ e .0
+Reaches Forever (At e) = ⊥
+
 -- if the prefix forms the address, it is valid until v or longer
-abbrev pub LastsTo : ℕ → HardwareAddress → Ipv6Cidr → Prefix → Type 0
-LastsTo v hw a p = formedOf hw (p .cidr) ≡ Addr a → v ≤ p .«valid_until» .0
+abbrev pub LastsTo : Expiry → HardwareAddress → Ipv6Cidr → Prefix → Type 0
+LastsTo v hw a p = formedOf hw (p .cidr) ≡ Addr a → Reaches v (p .«valid_until»)
 
 -- if the option is not skipped, and its prefix forms the address, then it says so too
-abbrev pub Spares : ℕ → HardwareAddress → Ipv6Cidr → Instant → PrefixInformation → Type 0
+abbrev pub Spares : Expiry → HardwareAddress → Ipv6Cidr → Instant → PrefixInformation → Type 0
 Spares v hw a now o = isSkipped o ≡ false → LastsTo v hw a (prefixOf o now)
 
 -- the advertisement's prefixes spare the address; or, without times, none of them forms it
-abbrev pub Harmless : ℕ → HardwareAddress → Ipv6Cidr → HostCall → Type 0
-Harmless v hw a c = Before v (λ source msg now. All (Spares v hw a now) (prefixOptions (optionsIn msg))) c
+abbrev pub Harmless : Expiry → HardwareAddress → Ipv6Cidr → HostCall → Type 0
+Harmless v hw a c = Before (Earlier v) (λ source msg now. All (Spares v hw a now) (prefixOptions (optionsIn msg))) c
 
 abbrev pub Names : HardwareAddress → Ipv6Cidr → PrefixInformation → Type 0
 Names hw a o = (isSkipped o ≡ false) × (formedOf hw (cidrOf o) ≡ Addr a)
 
-abbrev pub Silent : ℕ → HardwareAddress → Ipv6Cidr → HostCall → Type 0
-Silent v hw a c = Before v (λ source msg now. All (λ o. Names hw a o → ⊥) (prefixOptions (optionsIn msg))) c
+abbrev pub Silent : Expiry → HardwareAddress → Ipv6Cidr → HostCall → Type 0
+Silent v hw a c = Before (Earlier v) (λ source msg now. All (λ o. Names hw a o → ⊥) (prefixOptions (optionsIn msg))) c
 
 -- Routes
 
@@ -151,25 +164,25 @@ abbrev pub RouterSpares : ℕ → Ipv6Addr → Instant → Ipv6Addr → Duration
 RouterSpares v via now source lifetime = sameAddr source via ≡ true → v ≤ addOf now lifetime .0
 
 abbrev pub HarmlessTo : ℕ → Ipv6Addr → HostCall → Type 0
-HarmlessTo v via c = Before v (λ source msg now. RouterSpares v via now source (secondsOf (routerAdvertAt msg .«router_lifetime»))) c
+HarmlessTo v via c = Before (λ now. now .0 < v) (λ source msg now. RouterSpares v via now source (secondsOf (routerAdvertAt msg .«router_lifetime»))) c
 
 -- or, without times, it is another router's
 abbrev pub SilentTo : ℕ → Ipv6Addr → HostCall → Type 0
-SilentTo v via c = Before v (λ source msg now. sameAddr source via ≡ false) c
+SilentTo v via c = Before (λ now. now .0 < v) (λ source msg now. sameAddr source via ≡ false) c
 
 -- The claim
 
 pub record NotEarly : Type 0 where
   -- A SLAAC address stands, and every prefix of the table that forms it is valid until v or longer. Whatever advertisements come that do not
   -- say otherwise of such a prefix, whatever the application adds and however often discovery restarts: short of
-  -- turning SLAAC off there, before a poll at v or later it stands.
-  pub address : (i : ℕ) (hw : HardwareAddress) (a : Ipv6Cidr) (v : ℕ) (x y : Host) (cs : List HostCall) → Run i hw x cs y
+  -- turning SLAAC off there, before a poll at v or later it stands. Where v is forever, no poll takes it.
+  pub address : (i : ℕ) (hw : HardwareAddress) (a : Ipv6Cidr) (v : Expiry) (x y : Host) (cs : List HostCall) → Run i hw x cs y
       → stands a (addrsOf (x .addrs)) ≡ true → All (LastsTo v hw a) (prefixesOf (x .slaac)) → All (Harmless v hw a) cs
       → stands a (addrsOf (y .addrs)) ≡ true
   -- The same for one prefix: it is the only one of the table that forms the address, and no advertisement names it or another that does.
   pub address-of : (i : ℕ) (hw : HardwareAddress) (a : Ipv6Cidr) (p : Prefix) (x y : Host) (cs : List HostCall) → Run i hw x cs y
       → stands a (addrsOf (x .addrs)) ≡ true → All (λ q. formedOf hw (q .cidr) ≡ Addr a → q ≡ p) (prefixesOf (x .slaac))
-      → All (Silent (p .«valid_until» .0) hw a) cs
+      → All (Silent (p .«valid_until») hw a) cs
       → stands a (addrsOf (y .addrs)) ≡ true
   -- A router's default route stands, and the router's entry lasts until v or longer. Whatever other routers advertise, other interfaces
   -- do and the application adds: before a poll at v or later it stands.

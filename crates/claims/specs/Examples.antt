@@ -4,6 +4,7 @@ use mathlib.Core.Path.{_≡_}
 use mathlib.Core.Bool.{true}
 use mathlib.Core.List.{List, [], _∷_, _++_}
 use lib.ListN.{replicate}
+use Rattle.time.specs.declared.Expiry.the-variants.{At}
 use Rattle.time.specs.ClockRules.{idle}
 use Rattle.wire.specs.declared.ipv6.Ipv6Addr.{Ipv6Addr}
 use Rattle.wire.specs.declared.ipv6.Ipv6Cidr.{Ipv6Cidr}
@@ -102,7 +103,7 @@ abbrev pub forms : PrefixInformation → List IfaceAddr
 forms o = addrsOf (polls (answerTo (prefixBytes o) .slaac) emptyAddrs emptyRoutes 0 .addrs)
 
 abbrev pub entry : Ipv6Cidr → ℕ → ℕ → Prefix
-entry c preferred valid = record { cidr = c; «preferred_until» = ms preferred; «valid_until» = ms valid }
+entry c preferred valid = record { cidr = c; «preferred_until» = At (ms preferred); «valid_until» = At (ms valid) }
 
 -- the event file: up, poll at 0, ra and poll at 500
 abbrev pub up : Polled
@@ -160,7 +161,7 @@ pub record Examples : Type 0 where
   pub P7-formless : forms (offer (ofLength 128) 5 5) ≡ []
   pub P7-skipped : learns (offer (ofLength 129) 5 5) ≡ []
   -- "P8 the formed address above.", and what else the event file prints of the state
-  pub P8 : addrsOf (end .addrs) ≡ linkLocal ∷ slaacAddr formed (Until (ms 1800500)) ∷ []
+  pub P8 : addrsOf (end .addrs) ≡ linkLocal ∷ slaacAddr formed (Until (At (ms 1800500))) ∷ []
   pub P8-prefixes : prefixesOf (end .slaac) ≡ entry network 1800500 3600500 ∷ []
   pub P8-routers : routersOf (end .slaac) ≡ record { addr = router; «valid_until» = ms 1800500 } ∷ []
   pub P8-routes : routesOf (end .routes) ≡ slaacRoute 0 router (ms 1800500) ∷ []
@@ -179,6 +180,6 @@ pub record Examples : Type 0 where
       ∷ swept 0 (Failed (neighbour 1 .addr) ∷ [])
       ∷ []
   -- "2001:db8:0:1::/64, then 2001:db8:0:1::1/64, then the second with 0: the sync leaves no address though the first entry stays."
-  pub formed-first : addrsOf (firstSync .addrs) ≡ slaacAddr formed (Until (ms 1800000)) ∷ []
+  pub formed-first : addrsOf (firstSync .addrs) ≡ slaacAddr formed (Until (At (ms 1800000))) ∷ []
   pub no-address : addrsOf (lastSync .addrs) ≡ []
   pub entry-stays : prefixesOf (lastSync .slaac) ≡ entry network 1800000 3600000 ∷ []

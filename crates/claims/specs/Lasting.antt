@@ -2,10 +2,12 @@
 use Prim.Native.Nat.{ℕ}
 use mathlib.Core.Path.{_≡_}
 use mathlib.Core.Bool.{true, false}
+use Rattle.time.specs.declared.Expiry.the-variants.{At}
 use Rattle.iface.specs.AddressRules.{addrsOf}
 use Rattle.iface.specs.RouteRules.{routesOf}
 use Rattle.learned.specs.LearnedRules.{prefixesOf, routersOf}
 use Rattle.slaac.specs.declared.Polled.{Polled}
+use Rattle.claims.specs.Traces.{ms}
 use Rattle.claims.specs.Early.{All, stands, LastsTo, routeStands, RouterLastsTo}
 use Rattle.claims.specs.Examples.{mac, router, formed, polls, end}
 
@@ -15,7 +17,7 @@ polledAgain now = polls (end .slaac) (end .addrs) (end .routes) now
 pub record Lasting : Type 0 where
   -- the formed address stands, and its prefix is valid until 3,600,500
   pub there : stands formed (addrsOf (end .addrs)) ≡ true
-  pub long : All (LastsTo 3600500 mac formed) (prefixesOf (end .slaac))
+  pub long : All (LastsTo (At (ms 3600500)) mac formed) (prefixesOf (end .slaac))
   -- a poll at the last millisecond before leaves it, and a poll at that time takes it
   pub before : stands formed (addrsOf (polledAgain 3600499 .addrs)) ≡ true
   pub gone : stands formed (addrsOf (polledAgain 3600500 .addrs)) ≡ false

@@ -9,4 +9,5 @@ pub mod Clocks
 pub mod Early
 pub mod Examples
 pub mod Lasting
+pub mod Endless
 pub mod RoundTrips
