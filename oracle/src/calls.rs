@@ -72,7 +72,7 @@ pub enum Polled {
 #[derive(Debug, Clone, Copy, PartialEq, Eq)]
 pub enum Preferred {
     Always,
-    Until(u64),
+    Until(Option<u64>),
     Never,
 }
 
@@ -138,8 +138,8 @@ pub trait Side {
     -> Result<(Polled, Option<u64>), Refused>;
     /// None with SLAAC off.
     fn soliciting(&mut self, iface: u8) -> Result<Option<Soliciting>, Refused>;
-    /// Prefix, length, preferred, valid.
-    fn prefixes(&mut self, iface: u8) -> Result<Vec<(Addr, u8, u64, u64)>, Refused>;
+    /// Prefix, length, preferred, valid; None is forever.
+    fn prefixes(&mut self, iface: u8) -> Result<Vec<(Addr, u8, Option<u64>, Option<u64>)>, Refused>;
     fn routers(&mut self, iface: u8) -> Result<Vec<(Addr, u64)>, Refused>;
     /// Address, length, whether SLAAC's, preferred.
     fn addresses(&mut self, iface: u8) -> Result<Vec<(Addr, u8, bool, Preferred)>, Refused>;
@@ -191,6 +191,11 @@ fn hex(bytes: &[u8]) -> String {
 
 fn time(t: Option<u64>) -> String {
     t.map_or("-".into(), |t| t.to_string())
+}
+
+/// The end of a prefix's or an address's time.
+fn until(t: Option<u64>) -> String {
+    t.map_or("forever".into(), |t| t.to_string())
 }
 
 fn shown(s: Option<Shown>) -> String {
@@ -439,7 +444,7 @@ fn call(side: &mut dyn Side, line: &str) -> Option<Result<String, Refused>> {
             let iface = f.small()?;
             f.end()?;
             side.prefixes(iface)
-                .map(|l| list(l, |(p, len, preferred, valid)| format!("{} {len} {preferred} {valid}", hex(p))))
+                .map(|l| list(l, |(p, len, preferred, valid)| format!("{} {len} {} {}", hex(p), until(*preferred), until(*valid))))
         }
         "routers" => {
             let iface = f.small()?;
@@ -453,7 +458,7 @@ fn call(side: &mut dyn Side, line: &str) -> Option<Result<String, Refused>> {
                 list(l, |(a, len, slaac, preferred)| {
                     let preferred = match preferred {
                         Preferred::Always => "-".into(),
-                        Preferred::Until(t) => t.to_string(),
+                        Preferred::Until(t) => until(*t),
                         Preferred::Never => "never".into(),
                     };
                     format!("{} {len} {} {preferred}", hex(a), if *slaac { "slaac" } else { "static" })
@@ -772,8 +777,8 @@ impl Side for Real {
         }))
     }
 
-    fn prefixes(&mut self, iface: u8) -> Result<Vec<(Addr, u8, u64, u64)>, Refused> {
-        let entry = |(p, len, preferred, valid)| (p, len, self.outer(preferred), self.outer(valid));
+    fn prefixes(&mut self, iface: u8) -> Result<Vec<(Addr, u8, Option<u64>, Option<u64>)>, Refused> {
+        let entry = |(p, len, preferred, valid)| (p, len, Some(self.outer(preferred)), Some(self.outer(valid)));
         Ok(self.world.prefixes(known(iface)?).into_iter().map(entry).collect())
     }
 
@@ -786,7 +791,7 @@ impl Side for Real {
         let entry = |(a, len, slaac, kept)| {
             let preferred = match kept {
                 Kept::Always => Preferred::Always,
-                Kept::Until(t) => Preferred::Until(self.outer(t)),
+                Kept::Until(t) => Preferred::Until(Some(self.outer(t))),
                 Kept::Never => Preferred::Never,
             };
             (a, len, slaac, preferred)
@@ -1027,7 +1032,7 @@ impl Side for Modelled {
         }))
     }
 
-    fn prefixes(&mut self, iface: u8) -> Result<Vec<(Addr, u8, u64, u64)>, Refused> {
+    fn prefixes(&mut self, iface: u8) -> Result<Vec<(Addr, u8, Option<u64>, Option<u64>)>, Refused> {
         let entry = |p: &model::Prefix| (p.addr.to_be_bytes(), p.len, p.preferred, p.valid);
         let slaac = &self.0.ifaces[known(iface)?].slaac;
         Ok(slaac.iter().flat_map(|s| s.prefixes.iter().map(entry)).collect())

@@ -302,8 +302,8 @@ impl Maker {
         let mut times = Vec::new();
         for s in self.model.ifaces.iter().filter_map(|i| i.slaac.as_ref()) {
             for p in &s.prefixes {
-                times.push(p.valid);
-                times.push(p.preferred);
+                times.extend(p.valid);
+                times.extend(p.preferred);
             }
             times.extend(s.routers.iter().map(|r| r.until));
             if let Phase::Discovering { retry } = s.phase {

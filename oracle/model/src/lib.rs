@@ -67,12 +67,27 @@ impl Clock {
     }
 }
 
+/// When a prefix's time ends: a moment, or None for forever (request 2026-01).
+pub type End = Option<u64>;
+
+/// All ones in a lifetime are forever.
+fn end(now: u64, seconds: u64) -> End {
+    if seconds == 0xffff_ffff {
+        return None;
+    }
+    Some(now + 1000 * seconds)
+}
+
+fn over(end: End, now: u64) -> bool {
+    end.is_some_and(|t| t <= now)
+}
+
 #[derive(Debug, Clone, Copy, PartialEq, Eq)]
 pub struct Prefix {
     pub addr: Addr,
     pub len: u8,
-    pub preferred: u64,
-    pub valid: u64,
+    pub preferred: End,
+    pub valid: End,
 }
 
 #[derive(Debug, Clone, Copy, PartialEq, Eq)]
@@ -118,7 +133,7 @@ impl Slaac {
 #[derive(Debug, Clone, Copy, PartialEq, Eq)]
 pub enum Preferred {
     Always,
-    Until(u64),
+    Until(End),
     Never,
 }
 
@@ -816,12 +831,16 @@ impl Model {
         // The clock is asked of each, also when a sync is asked for already.
         let mut prefix_expired = false;
         for p in &slaac.prefixes {
-            if clock.expired(p.valid) {
+            let Some(valid) = p.valid else {
+                mark!("forever.sync-valid");
+                continue;
+            };
+            if clock.expired(valid) {
                 prefix_expired = true;
-                if p.valid == now {
+                if valid == now {
                     mark!("sync.valid-until-now");
                 }
-            } else if p.valid == now + 1 {
+            } else if valid == now + 1 {
                 mark!("sync.valid-one-more");
             }
         }
@@ -863,16 +882,19 @@ impl Model {
             }
             let twin = slaac.prefixes[..i].iter().any(|q| q.len == 64 && q.addr >> 64 == p.addr >> 64);
             let known = addrs.iter().position(|a| a.addr == addr && a.len == 64);
-            if p.valid > now {
-                let preferred = if p.preferred > now {
+            if !over(p.valid, now) {
+                let preferred = if !over(p.preferred, now) {
                     mark!("sync.preferred");
-                    if p.preferred == now + 1 {
+                    if p.preferred == Some(now + 1) {
                         mark!("sync.preferred-one-more");
+                    }
+                    if p.preferred.is_none() {
+                        mark!("forever.sync-preferred");
                     }
                     Preferred::Until(p.preferred)
                 } else {
                     mark!("sync.deprecated");
-                    if p.preferred == now {
+                    if p.preferred == Some(now) {
                         mark!("sync.deprecated-now");
                     }
                     Preferred::Never
@@ -969,9 +991,9 @@ impl Model {
         }
 
         let slaac = self.ifaces[iface].slaac.as_mut().unwrap();
-        if slaac.prefixes.iter().any(|p| p.valid <= now) {
+        if slaac.prefixes.iter().any(|p| over(p.valid, now)) {
             mark!("sync.prefix-leaves");
-            if slaac.prefixes.last().is_some_and(|p| p.valid > now) {
+            if slaac.prefixes.last().is_some_and(|p| !over(p.valid, now)) {
                 mark!("sync.prefix-leaves-others-move");
             }
         }
@@ -981,7 +1003,7 @@ impl Model {
                 mark!("sync.router-leaves-other-moves");
             }
         }
-        slaac.prefixes.retain(|p| p.valid > now);
+        slaac.prefixes.retain(|p| !over(p.valid, now));
         slaac.routers.retain(|r| r.until > now);
         slaac.sync = false;
         true
@@ -1542,6 +1564,9 @@ fn learn_prefix(slaac: &mut Slaac, now: u64, option: &[u8]) {
         if preferred == valid + 1 {
             mark!("prefix.preferred-above-valid-by-one");
         }
+        if preferred == 0xffff_ffff {
+            mark!("forever.preferred-with-finite-valid");
+        }
         if valid == 0 && slaac.prefixes.iter().any(|p| p.addr == addr && p.len == len) {
             mark!("prefix.preferred-above-valid-zero-known");
         }
@@ -1567,17 +1592,26 @@ fn learn_prefix(slaac: &mut Slaac, now: u64, option: &[u8]) {
         let entry = Prefix {
             addr,
             len,
-            preferred: now + 1000 * preferred,
-            valid: now + 1000 * valid,
+            preferred: end(now, preferred),
+            valid: end(now, valid),
         };
+        match (entry.preferred, entry.valid) {
+            (None, None) => mark!("forever.both"),
+            (_, None) => mark!("forever.valid"),
+            _ => {}
+        }
         match known {
             Some(i) => {
                 mark!("prefix.refresh");
-                if slaac.prefixes[i].valid <= now {
+                let before = slaac.prefixes[i].valid;
+                if over(before, now) {
                     mark!("prefix.refresh-expired");
                 }
-                if entry.valid < slaac.prefixes[i].valid {
-                    mark!("prefix.refresh-shortens");
+                match (before, entry.valid) {
+                    (Some(old), Some(new)) if new < old => mark!("prefix.refresh-shortens"),
+                    (None, Some(_)) => mark!("forever.to-finite"),
+                    (Some(_), None) => mark!("forever.from-finite"),
+                    _ => {}
                 }
                 slaac.prefixes[i] = entry;
                 slaac.sync = true;
@@ -1595,7 +1629,7 @@ fn learn_prefix(slaac: &mut Slaac, now: u64, option: &[u8]) {
             }
             None => {
                 mark!("prefix.full");
-                if slaac.prefixes.iter().any(|p| p.valid <= now) {
+                if slaac.prefixes.iter().any(|p| over(p.valid, now)) {
                     mark!("prefix.full-with-expired");
                 }
             }
@@ -1604,8 +1638,11 @@ fn learn_prefix(slaac: &mut Slaac, now: u64, option: &[u8]) {
         match known {
             Some(i) => {
                 mark!("prefix.zero");
-                slaac.prefixes[i].preferred = now;
-                slaac.prefixes[i].valid = now;
+                if slaac.prefixes[i].valid.is_none() {
+                    mark!("forever.to-zero");
+                }
+                slaac.prefixes[i].preferred = Some(now);
+                slaac.prefixes[i].valid = Some(now);
                 slaac.sync = true;
             }
             None => mark!("prefix.zero-unknown"),

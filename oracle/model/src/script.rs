@@ -1,6 +1,6 @@
 //! The event program's lines: read, carried out on the model, and the state written.
 
-use crate::{Addr, Answer, Clock, LATEST, Mac, Model, Preferred, Probe, Sent, State, mark};
+use crate::{Addr, Answer, Clock, End, LATEST, Mac, Model, Preferred, Probe, Sent, State, mark};
 
 #[derive(Debug, Clone, PartialEq, Eq)]
 pub enum Event {
@@ -383,6 +383,10 @@ pub fn apply(model: &mut Model, time: u64, event: &Event, out: &mut String) {
     }
 }
 
+fn until(end: End) -> String {
+    end.map_or("forever".to_string(), |t| t.to_string())
+}
+
 /// The state. (The last time is for the marks only.)
 pub fn list(model: &Model, last: u64, out: &mut String) {
     let iface = &model.ifaces[0];
@@ -398,10 +402,13 @@ pub fn list(model: &Model, last: u64, out: &mut String) {
         mark!("list.prefixes-full");
     }
     for p in prefixes {
-        if p.valid <= last {
+        if p.valid.is_some_and(|t| t <= last) {
             mark!("list.prefix-past-its-time");
         }
-        out.push_str(&format!("{:032x} {} {} {}\n", p.addr, p.len, p.preferred, p.valid));
+        if p.valid.is_none() {
+            mark!("forever.listed-prefix");
+        }
+        out.push_str(&format!("{:032x} {} {} {}\n", p.addr, p.len, until(p.preferred), until(p.valid)));
     }
     out.push_str(&format!("routers {}\n", routers.len()));
     if routers.len() == crate::ROUTERS {
@@ -429,10 +436,13 @@ pub fn list(model: &Model, last: u64, out: &mut String) {
             }
             Preferred::Until(t) => {
                 mark!("list.address-until");
-                if t <= last {
+                if t.is_some_and(|t| t <= last) {
                     mark!("list.address-until-past");
                 }
-                t.to_string()
+                if t.is_none() {
+                    mark!("forever.listed-address");
+                }
+                until(t)
             }
             Preferred::Never => {
                 mark!("list.address-never");

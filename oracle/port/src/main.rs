@@ -16,7 +16,7 @@ mod port {
 }
 
 use port::iface::addr::{AddrAt, AddrOrigin, IfaceAddrs};
-use port::iface::route::{Expiry, RouteAt, RouteOrigin, Routes};
+use port::iface::route::{RouteAt, RouteOrigin, Routes};
 use port::learned::{Phase, PrefixAt, RouterAt, Slaac};
 use port::neighbor::{Answer, Got, Neighbor, NeighborCache, NeighborState, Outcome, State};
 use port::ndisc::ndisc::{Solicited, write_solicit};
@@ -24,7 +24,7 @@ use port::ndisc::ndiscoption::{self, Checked, NdiscOption, PrefixInformation, Wr
 use port::pending::{PendingQueue, Push, Release, Waiting};
 use port::slaac::{AdvertAnswer, PollAnswer, process_advertisement, turn_off};
 use port::sweep::ProbeEvent;
-use port::time::{Clock, Deadline, Instant};
+use port::time::{Clock, Deadline, Expiry, Instant};
 use port::wire::error::Refusal;
 use port::wire::ethernet::HardwareAddress;
 use port::wire::ipv6::{Ipv6Addr, Ipv6Cidr};
@@ -94,6 +94,13 @@ fn clock(now: u64, deadline: Option<u64>) -> Clock {
     Clock {
         now: Instant(now),
         deadline: deadline.map_or(Deadline::None, |t| Deadline::At(Instant(t))),
+    }
+}
+
+fn end(e: Expiry) -> Option<u64> {
+    match e {
+        Expiry::Forever => None,
+        Expiry::At(t) => Some(t.0),
     }
 }
 
@@ -407,11 +414,11 @@ impl Side for Port {
             other: s.state.other_config,
         }))
     }
-    fn prefixes(&mut self, iface: u8) -> Result<Vec<(Addr, u8, u64, u64)>, Refused> {
+    fn prefixes(&mut self, iface: u8) -> Result<Vec<(Addr, u8, Option<u64>, Option<u64>)>, Refused> {
         let s = self.slaac[self.known(iface)?];
         let mut list = Vec::new();
         while let PrefixAt::Is(p) = s.prefix_at(list.len()) {
-            list.push((p.cidr.address.octets(), p.cidr.prefix_len, p.preferred_until.0, p.valid_until.0));
+            list.push((p.cidr.address.octets(), p.cidr.prefix_len, end(p.preferred_until), end(p.valid_until)));
         }
         Ok(list)
     }
@@ -429,7 +436,7 @@ impl Side for Port {
         while let AddrAt::Is(a) = t.at(list.len()) {
             let preferred = match a.preferred {
                 port::iface::addr::Preferred::Always => Preferred::Always,
-                port::iface::addr::Preferred::Until(t) => Preferred::Until(t.0),
+                port::iface::addr::Preferred::Until(t) => Preferred::Until(end(t)),
                 port::iface::addr::Preferred::Never => Preferred::Never,
             };
             let slaac = matches!(a.origin, AddrOrigin::Slaac);
@@ -440,11 +447,7 @@ impl Side for Port {
     fn routes(&mut self) -> Vec<(u8, Addr, bool, Option<u64>)> {
         let mut list = Vec::new();
         while let RouteAt::Is(r) = self.routes.at(list.len()) {
-            let expiry = match r.expires_at {
-                Expiry::Forever => None,
-                Expiry::At(t) => Some(t.0),
-            };
-            list.push((r.iface, r.via_router.octets(), matches!(r.origin, RouteOrigin::Slaac), expiry));
+            list.push((r.iface, r.via_router.octets(), matches!(r.origin, RouteOrigin::Slaac), end(r.expires_at)));
         }
         list
     }

@@ -257,6 +257,43 @@ fn more_written() -> Vec<(&'static str, String)> {
     cases
 }
 
+/// Infinite lifetimes, which the Rust does not have: a prefix option is made of the digits after 2001:db8, valid and preferred.
+fn forever_cases() -> Vec<(&'static str, String)> {
+    const ALL: u32 = 0xffff_ffff;
+    let wide = |n: u32, low: u64, valid: u32, preferred: u32| {
+        format!("030440c0{valid:08x}{preferred:08x}0000000020010db8{n:08x}{low:016x}")
+    };
+    let prefix = |n: u32, valid: u32, preferred: u32| wide(n, 0, valid, preferred);
+    let ra = |time: u64, lifetime: u16, options: &[String]| {
+        format!("{time} ra fe800000000000000000000000000001 860000000000{lifetime:04x}0000000000000000{}", options.concat())
+    };
+    let file = |events: &[String]| format!("mac 020000000001\naddresses 0\nevents {}\n{}\n", events.len(), events.join("\n"));
+    let e = |text: &str| text.to_string();
+    let five: Vec<String> = (1..=5).map(|n| prefix(n, ALL, ALL)).collect();
+    vec![
+        ("forever: both lifetimes", file(&[ra(0, 9, &[prefix(1, ALL, ALL)]), e("0 poll")])),
+        ("forever: polled at the last time", file(&[ra(0, 9, &[prefix(1, ALL, ALL)]), e("0 poll"), e("4611686018427387904 poll")])),
+        ("forever: polled at what would be its end", file(&[ra(0, 9, &[prefix(1, ALL, ALL)]), e("0 poll"), e("4294967295000 poll")])),
+        ("forever: valid alone", file(&[ra(0, 0, &[prefix(1, ALL, 1)]), e("0 poll"), e("1000 poll")])),
+        ("forever: valid alone, synced after the preferred time", file(&[ra(0, 1, &[prefix(1, ALL, 1)]), e("0 poll"), e("1000 poll")])),
+        ("forever: valid alone, never preferred", file(&[ra(0, 0, &[prefix(1, ALL, 0)]), e("0 poll")])),
+        ("forever: one second less is a moment", file(&[ra(0, 0, &[prefix(1, ALL - 1, ALL - 1)]), e("0 poll"), e("4294967293999 poll"), e("4294967294000 poll")])),
+        ("forever: preferred, one second less valid: skipped", file(&[ra(0, 0, &[prefix(1, ALL - 1, ALL)]), e("0 poll")])),
+        ("forever: preferred with a finite valid, skipped", file(&[ra(0, 0, &[prefix(1, 9, ALL)]), e("0 poll")])),
+        ("forever: preferred with valid 0 expires nothing", file(&[ra(0, 0, &[prefix(1, ALL, ALL)]), e("0 poll"), ra(5, 0, &[prefix(1, 0, ALL)]), e("5 poll")])),
+        ("forever: then finite", file(&[ra(0, 0, &[prefix(1, ALL, ALL)]), e("0 poll"), ra(5, 0, &[prefix(1, 2, 1)]), e("5 poll")])),
+        ("forever: then finite, and gone", file(&[ra(0, 0, &[prefix(1, ALL, ALL)]), e("0 poll"), ra(5, 0, &[prefix(1, 2, 1)]), e("5 poll"), e("2004 poll"), e("2005 poll")])),
+        ("forever: then 0, before the sync", file(&[ra(0, 0, &[prefix(1, ALL, ALL)]), e("0 poll"), ra(5, 0, &[prefix(1, 0, 0)])])),
+        ("forever: then 0, and gone", file(&[ra(0, 0, &[prefix(1, ALL, ALL)]), e("0 poll"), ra(5, 0, &[prefix(1, 0, 0)]), e("5 poll")])),
+        ("forever: from finite", file(&[ra(0, 0, &[prefix(1, 2, 1)]), e("0 poll"), ra(1_500, 0, &[prefix(1, ALL, ALL)]), e("1500 poll"), e("3000 poll")])),
+        ("forever: from finite, expired and not left", file(&[ra(0, 0, &[prefix(1, 2, 1)]), e("0 poll"), ra(2_500, 0, &[prefix(1, ALL, ALL)]), e("2500 poll")])),
+        ("forever: a full table ignores a fifth", file(&[ra(0, 0, &five), e("0 poll"), ra(9, 0, &[prefix(6, 9, 9)]), e("9 poll")])),
+        ("forever: beside a prefix that ends", file(&[ra(0, 0, &[prefix(1, 1, 1), prefix(2, ALL, ALL), prefix(3, 1, 0)]), e("0 poll"), e("1000 poll")])),
+        ("forever: the same address by another prefix, ended: gone", file(&[ra(0, 0, &[prefix(1, ALL, ALL), wide(1, 1, 9, 9)]), e("0 poll"), ra(1, 0, &[wide(1, 1, 0, 0)]), e("1 poll")])),
+        ("forever: then off", file(&[ra(0, 9, &[prefix(1, ALL, ALL)]), e("0 poll"), e("1 off")])),
+    ]
+}
+
 /// Inputs of the format, most with one thing wrong. `@` stands for the good file below.
 fn format_cases() -> Vec<(String, Vec<u8>)> {
     let good = "mac 020000000001\naddresses 2\nfe80000000000000000000fffe000001 64\n20010db8000000010000000000000005 64\nevents 3\n0 up\n0 poll\n1 start 20010db8000000010000000000000007\n";
@@ -460,17 +497,27 @@ impl Record {
         if outcome.outside.is_some() || !self.seen.insert(input.to_vec()) {
             return;
         }
+        if outcome.output != model::script::run(input) {
+            eprintln!("{name}: the model differs");
+            exit(1)
+        }
+        self.write(name, input, &outcome.output);
+    }
+
+    /// A case with the model's answer.
+    fn put_model(&mut self, name: &str, input: &[u8]) {
+        let output = model::script::run(input);
+        self.write(name, input, &output);
+    }
+
+    fn write(&mut self, name: &str, input: &[u8], output: &str) {
         self.number += 1;
         let path = |end: &str| self.folder.join(format!("{}.{end}", self.number));
         fs::write(path("in"), input).unwrap();
-        fs::write(path("out"), &outcome.output).unwrap();
-        self.bytes += input.len() + outcome.output.len();
+        fs::write(path("out"), output).unwrap();
+        self.bytes += input.len() + output.len();
         self.reached.extend(fired(input));
         println!("{} {name}", self.number);
-        if outcome.output != model::script::run(input) {
-            eprintln!("{}: the model differs", self.number);
-            exit(1)
-        }
     }
 }
 
@@ -533,7 +580,7 @@ fn main() {
         }
     }
     for (rule, input) in smallest.into_iter().enumerate() {
-        if names[rule].starts_with("calls.") {
+        if names[rule].starts_with("calls.") || names[rule].starts_with("forever.") {
             continue;
         }
         let Some(input) = input else {
@@ -558,6 +605,9 @@ fn main() {
         if whole == 60 {
             break;
         }
+    }
+    for (name, text) in forever_cases() {
+        record.put_model(name, text.as_bytes());
     }
     let total: Vec<usize> = (0..names.len()).filter(|i| !names[*i].starts_with("calls.")).collect();
     let reached = total.iter().filter(|i| record.reached.contains(i)).count();
