@@ -1,6 +1,6 @@
 -- From what a call found in the table to its promise. `es` are the entries, `s` the slots. Assumes nothing.
-use Prim.Native.Nat.{ℕ, _+_, _-_, _≤_, _<_, min}
-use borrow.Author.Tests.{lt-ltb, le-ltb}
+use Prim.Native.Nat.{ℕ, suc, _+_, _-_, _≤_, _<_, min}
+use borrow.Author.Tests.{lt-ltb, le-ltb, ltb-true, ltb-false}
 use lib.Dec.{ltb, eqb}
 use lib.ListN.{length, take, drop, set, getD, length-take, length-set, length-append, drop-of-length-le}
 use lib.Seq.{drop-cons, take-all}
@@ -9,8 +9,8 @@ use mathlib.Core.List.{List, [], _∷_, _++_}
 use mathlib.Core.Path.{_≡_, refl, sym, ap, ap₂, subst, _∙_}
 use native.Mathlib.Numerals.{add-one}
 use native.Mathlib.Omega.{arith}
-use Rattle.neighbor.specs.Answers.{answerNumber, gotNumber, answerOf, listed}
-use Rattle.neighbor.specs.CacheCalls.{entries, withEntries, blank, key, keyCheck, ifaceCheck, answerIn, lookupBy, LookedUp, changeBy, ChangedTo, shown, getBy, GotBy, removeBy, RemovedTo, atIndex}
+use Rattle.neighbor.specs.Answers.{answerNumber, answerFound, gotNumber, gotShown, answerOf, sendsTo, listed}
+use Rattle.neighbor.specs.CacheCalls.{entries, withEntries, blank, key, keyCheck, ifaceCheck, unless, answerIn, lookupBy, sentTo, LookedUp, changeBy, ChangedTo, shown, getBy, alone, GotBy, removeBy, RemovedTo, atIndex}
 use Rattle.neighbor.specs.NeighborRules.{Table, Key, isKey, entry, find, kind, time, before, victimFrom, victim, insertState, removeKey}
 use Rattle.neighbor.specs.declared.Answer.the-variants.{Refused as Denied, NotFound}
 use Rattle.neighbor.specs.declared.Answer.{Answer}
@@ -26,7 +26,7 @@ use Rattle.neighbor.specs.declared.State.the-variants.{Started, Incomple
 use Rattle.neighbor.specs.declared.State.{State}
 use Rattle.table.proofs.Laws.{Made, entry-at, over, at-end, moved-in, moved-count, counted}
 use Rattle.table.proofs.Placing.{Placing, placing, place-next, placed, place-none}
-use Rattle.table.specs.Table.{filled, firstOf, swapRemove, kept}
+use Rattle.table.specs.Table.{filled, firstFrom, firstOf, swapRemove, kept}
 use Rattle.wire.specs.Refusals.{checkNumber}
 use Rattle.wire.specs.declared.error.Check.the-variants.{Fine, Refused as Fails}
 use Rattle.wire.specs.declared.error.Check.{Check}
@@ -58,28 +58,96 @@ got-number k (e ∷ es) = go (isKey k e) (got-number k es)
     go true h = refl
     go false h = h
 
+-- the values: those of the key's entry
+
+found-state : (s : State) → answerFound (answerOf s) ≡ sendsTo s
+found-state Started = refl
+found-state (Incomplete p t) = refl
+found-state (Reachable h t) = refl
+found-state (Stale h) = refl
+
+found-first : (k : Key) (es : Table) → answerFound (firstOf (isKey k) answerIn NotFound es) ≡ firstOf (isKey k) sentTo [] es
+found-first k [] = refl
+found-first k (e ∷ es) = go (isKey k e) (found-first k es)
+  where
+    go : (x : Bool) → answerFound (firstOf (isKey k) answerIn NotFound es) ≡ firstOf (isKey k) sentTo [] es
+        → answerFound (cond x (answerIn e) (firstOf (isKey k) answerIn NotFound es)) ≡ cond x (sentTo e) (firstOf (isKey k) sentTo [] es)
+    go true h = found-state (e .state)
+    go false h = h
+
+found-by : (x : Check) (c : NeighborCache) (k : Key) → answerFound (lookupBy x c k) ≡ unless x (firstOf (isKey k) sentTo [] (entries c))
+found-by (Fails why) c k = refl
+found-by Fine c k = found-first k (entries c)
+
+shown-first : (k : Key) (es : Table) → gotShown (firstOf (isKey k) shown Nothing es) ≡ firstOf (isKey k) alone [] es
+shown-first k [] = refl
+shown-first k (e ∷ es) = go (isKey k e) (shown-first k es)
+  where
+    go : (x : Bool) → gotShown (firstOf (isKey k) shown Nothing es) ≡ firstOf (isKey k) alone [] es
+        → gotShown (cond x (shown e) (firstOf (isKey k) shown Nothing es)) ≡ cond x (alone e) (firstOf (isKey k) alone [] es)
+    go true h = refl
+    go false h = h
+
+shown-by : (x : Check) (c : NeighborCache) (k : Key) → gotShown (getBy x c k) ≡ unless x (firstOf (isKey k) alone [] (entries c))
+shown-by (Fails why) c k = refl
+shown-by Fine c k = shown-first k (entries c)
+
+ltb-suc : (a b : ℕ) (t : Bool) → ltb a b ≡ t → ltb (suc a) (suc b) ≡ t
+ltb-suc a b true e = let h = ltb-true a b e in lt-ltb (suc a) (suc b) (omega arith)
+ltb-suc a b false e = let h = ltb-false a b e in le-ltb (suc a) (suc b) (omega arith)
+
+-- of the entry at the key's place, the same
+taken-first : (k : Key) (es : Table)
+    → gotShown (cond (ltb (find k es) (length es)) (shown (getD es (find k es) blank)) Nothing) ≡ firstOf (isKey k) alone [] es
+unfolding find
+taken-first k [] = refl
+taken-first k (e ∷ es) = go (isKey k e) (taken-first k es)
+  where
+    go : (x : Bool) → gotShown (cond (ltb (firstFrom (isKey k) 0 es) (length es)) (shown (getD es (firstFrom (isKey k) 0 es) blank)) Nothing) ≡ firstOf (isKey k) alone [] es
+        → gotShown (cond (ltb (cond x 0 (suc (firstFrom (isKey k) 0 es))) (suc (length es))) (shown (getD (e ∷ es) (cond x 0 (suc (firstFrom (isKey k) 0 es))) blank)) Nothing)
+        ≡ cond x (alone e) (firstOf (isKey k) alone [] es)
+    go true h = rw (lt-ltb 0 (suc (length es)) (omega arith)) refl
+    go false h = rw (ltb-suc (firstFrom (isKey k) 0 es) (length es) (ltb (firstFrom (isKey k) 0 es) (length es)) refl) h
+
+taken-cond : (x : Bool) (a b : Removed) → gotShown (cond x a b .taken) ≡ gotShown (cond x (a .taken) (b .taken))
+taken-cond true a b = refl
+taken-cond false a b = refl
+
+taken-by : (x : Check) (c : NeighborCache) (k : Key) → gotShown (removeBy x c k .taken) ≡ unless x (firstOf (isKey k) alone [] (entries c))
+taken-by (Fails why) c k = refl
+taken-by Fine c k =
+    taken-cond (ltb (find k (entries c)) (length (entries c))) (record { cache = withEntries c (removeKey k (entries c)); taken = shown (getD (entries c) (find k (entries c)) blank) })
+    (record { cache = c; taken = Nothing })
+    ∙ taken-first k (entries c)
+
 module _ (c : NeighborCache) (iface : ℕ) (addr : Ipv6Addr) where
+  looked-as : (r : Answer) → r ≡ lookupBy (keyCheck iface addr) c (key iface addr) → answerNumber r ≡ checkNumber (keyCheck iface addr) → LookedUp c iface addr r
+  looked-as r e n = record { is = e; number = n; found = ap answerFound e ∙ found-by (keyCheck iface addr) c (key iface addr) }
+
+  got-as : (r : Got) → r ≡ getBy (ifaceCheck iface) c (key iface addr) → gotNumber r ≡ checkNumber (ifaceCheck iface) → GotBy c iface addr r
+  got-as r e n = record { is = e; number = n; shows = ap gotShown e ∙ shown-by (ifaceCheck iface) c (key iface addr) }
+
+  taken-as : (r : Removed) → r ≡ removeBy (ifaceCheck iface) c (key iface addr) → gotNumber (r .taken) ≡ checkNumber (ifaceCheck iface) → RemovedTo c iface addr r
+  taken-as r e n =
+      record { is = e; number = n; shows = ap (λ (x : Removed). gotShown (x .taken)) e ∙ taken-by (ifaceCheck iface) c (key iface addr) }
+
   pub lookup-refused : (why : Refusal) → keyCheck iface addr ≡ Fails why → LookedUp c iface addr (Denied why)
   lookup-refused why p =
-      record { is = ap (λ (x : Check). lookupBy x c (key iface addr)) (sym p); number = ap checkNumber (sym p) }
+      looked-as (Denied why) (ap (λ (x : Check). lookupBy x c (key iface addr)) (sym p)) (ap checkNumber (sym p))
 
   pub looked : (r : Answer) → keyCheck iface addr ≡ Fine → r ≡ firstOf (isKey (key iface addr)) answerIn NotFound (entries c)
       → LookedUp c iface addr r
   looked r p e =
-      record {
-        is = e ∙ ap (λ (x : Check). lookupBy x c (key iface addr)) (sym p);
-        number = ap answerNumber e ∙ (looked-number (key iface addr) (entries c) ∙ ap checkNumber (sym p));
-      }
+      looked-as r (e ∙ ap (λ (x : Check). lookupBy x c (key iface addr)) (sym p))
+      (ap answerNumber e ∙ (looked-number (key iface addr) (entries c) ∙ ap checkNumber (sym p)))
 
   pub get-refused : (why : Refusal) → ifaceCheck iface ≡ Fails why → GotBy c iface addr (Rejected why)
-  get-refused why p = record { is = ap (λ (x : Check). getBy x c (key iface addr)) (sym p); number = ap checkNumber (sym p) }
+  get-refused why p = got-as (Rejected why) (ap (λ (x : Check). getBy x c (key iface addr)) (sym p)) (ap checkNumber (sym p))
 
   pub got : (r : Got) → ifaceCheck iface ≡ Fine → r ≡ firstOf (isKey (key iface addr)) shown Nothing (entries c) → GotBy c iface addr r
   got r p e =
-      record {
-        is = e ∙ ap (λ (x : Check). getBy x c (key iface addr)) (sym p);
-        number = ap gotNumber e ∙ (got-number (key iface addr) (entries c) ∙ ap checkNumber (sym p));
-      }
+      got-as r (e ∙ ap (λ (x : Check). getBy x c (key iface addr)) (sym p))
+      (ap gotNumber e ∙ (got-number (key iface addr) (entries c) ∙ ap checkNumber (sym p)))
 
 module _ (c : NeighborCache) (k i : ℕ) (full : length (c .slots) ≡ 16) (e : k ≡ min (c .len) 16) where
   count : k ≡ length (entries c)
@@ -262,7 +330,7 @@ taken-from {iface = iface} {addr = addr} {r = r} same m = subst (λ (x : Neighbo
 
 module _ (c : NeighborCache) (iface : ℕ) (addr : Ipv6Addr) where
   pub remove-refused : (why : Refusal) → ifaceCheck iface ≡ Fails why → RemovedTo c iface addr (record { cache = c; taken = Rejected why })
-  remove-refused why p = record { is = ap (λ (x : Check). removeBy x c (key iface addr)) (sym p); number = ap checkNumber (sym p) }
+  remove-refused why p = taken-as c iface addr _ (ap (λ (x : Check). removeBy x c (key iface addr)) (sym p)) (ap checkNumber (sym p))
 
   module _ {k i : ℕ} (inv : Placing 16 (isKey (key iface addr)) (c .slots) (c .len) k i) (p : ifaceCheck iface ≡ Fine) where
     pub remove-none : k ≤ i → RemovedTo c iface addr (record { cache = c; taken = Nothing })
@@ -271,7 +339,7 @@ module _ (c : NeighborCache) (iface : ℕ) (addr : Ipv6Addr) where
         let f : find (key iface addr) (entries c) ≡ length (entries c) = place-none blank inv h ∙ inv .count in
         let e : record { cache = c; taken = Nothing } ≡ removeBy Fine c (key iface addr) =
         simp (f, le-ltb (length (entries c)) (length (entries c)) (omega arith)) in
-        record { is = e ∙ ap (λ (x : Check). removeBy x c (key iface addr)) (sym p); number = ap checkNumber (sym p) }
+        taken-as c iface addr _ (e ∙ ap (λ (x : Check). removeBy x c (key iface addr)) (sym p)) (ap checkNumber (sym p))
 
     pub removed : (n : Neighbor) → i < k → isKey (key iface addr) (getD (c .slots) i blank) ≡ true → n ≡ listed (getD (c .slots) i blank)
         → RemovedTo c iface addr
@@ -291,4 +359,4 @@ module _ (c : NeighborCache) (iface : ℕ) (addr : Ipv6Addr) where
         (ap₂ (λ (x : List Entry) (y : ℕ). record { slots = x; len = y }) a b) m in
         let by : record { cache = withEntries c (swapRemove i es); taken = shown (getD es i blank) } ≡ removeBy Fine c (key iface addr) =
         simp (f, lt-ltb i (length es) l) in
-        record { is = made ∙ (by ∙ ap (λ (x : Check). removeBy x c (key iface addr)) (sym p)); number = ap checkNumber (sym p) }
+        taken-as c iface addr _ (made ∙ (by ∙ ap (λ (x : Check). removeBy x c (key iface addr)) (sym p))) (ap checkNumber (sym p))

@@ -1,6 +1,8 @@
 -- What the answers of the cache are on paper: document 01's number of a refusal, 0 for none, and the values of each case. Assumes nothing.
 use Prim.Native.Nat.{ℕ}
+use mathlib.Core.List.{List, [], _∷_}
 use Rattle.wire.specs.Refusals.{numberOf}
+use Rattle.wire.specs.declared.ethernet.HardwareAddress.{HardwareAddress}
 use Rattle.neighbor.specs.declared.State.{State}
 use Rattle.neighbor.specs.declared.State.the-variants.{Started, Incomplete, Reachable, Stale}
 use Rattle.neighbor.specs.declared.NeighborState.{NeighborState}
@@ -20,10 +22,23 @@ answerNumber (Found h) = 0
 answerNumber Pending = 0
 answerNumber NotFound = 0
 
+-- the hardware address, if one was found
+abbrev pub answerFound : Answer → List HardwareAddress
+answerFound (Denied why) = []
+answerFound (Found h) = h ∷ []
+answerFound Pending = []
+answerFound NotFound = []
+
 abbrev pub gotNumber : Got → ℕ
 gotNumber (Rejected why) = numberOf why
 gotNumber Nothing = 0
 gotNumber (Is n) = 0
+
+-- the neighbour, if there is one
+abbrev pub gotShown : Got → List Neighbor
+gotShown (Rejected why) = []
+gotShown Nothing = []
+gotShown (Is n) = n ∷ []
 
 abbrev pub outcomeNumber : Outcome → ℕ
 outcomeNumber (Refused why) = numberOf why
@@ -35,6 +50,13 @@ answerOf Started = Pending
 answerOf (Incomplete p t) = Pending
 answerOf (Reachable h t) = Found h
 answerOf (Stale h) = NotFound
+
+-- where packets go, by that sentence
+abbrev pub sendsTo : State → List HardwareAddress
+sendsTo Started = []
+sendsTo (Incomplete p t) = []
+sendsTo (Reachable h t) = h ∷ []
+sendsTo (Stale h) = []
 
 -- "A listing shows Started as Incomplete."
 abbrev pub listedState : State → NeighborState

@@ -19,12 +19,13 @@ use Rattle.neighbor.specs.declared.Entry.{Entry}
 use Rattle.neighbor.specs.declared.NeighborCache.{NeighborCache}
 use Rattle.neighbor.specs.declared.Answer.{Answer}
 use Rattle.neighbor.specs.declared.Answer.the-variants.{Refused as Denied, NotFound}
+use Rattle.neighbor.specs.declared.Neighbor.{Neighbor}
 use Rattle.neighbor.specs.declared.Got.{Got}
 use Rattle.neighbor.specs.declared.Got.the-variants.{Refused as Rejected, Nothing, Is}
 use Rattle.neighbor.specs.declared.Outcome.the-variants.{Refused, Done}
 use Rattle.neighbor.specs.declared.Changed.{Changed}
 use Rattle.neighbor.specs.declared.Removed.{Removed}
-use Rattle.neighbor.specs.Answers.{answerNumber, gotNumber, outcomeNumber, answerOf, listed}
+use Rattle.neighbor.specs.Answers.{answerNumber, answerFound, gotNumber, gotShown, outcomeNumber, answerOf, sendsTo, listed}
 use Rattle.neighbor.specs.NeighborRules.{Key, isKey, find, insertState, removeKey, clearIface}
 
 -- the entries: the first `len` slots; "A count above its size reads as the size"
@@ -55,6 +56,11 @@ fillCheck t iface addr hw = firstRefusal (tooLate t ∷ noSuchIface iface ∷ no
 abbrev pub ifaceCheck : ℕ → Check
 ifaceCheck iface = firstRefusal (noSuchIface iface ∷ [])
 
+-- the values of an answer: none of a refusal
+abbrev pub unless : {A : Type 0} → Check → List A → List A
+unless (Fails why) xs = []
+unless Fine xs = xs
+
 -- Lookup
 
 abbrev pub answerIn : Entry → Answer
@@ -64,9 +70,14 @@ abbrev pub lookupBy : Check → NeighborCache → Key → Answer
 lookupBy (Fails why) c k = Denied why
 lookupBy Fine c k = firstOf (isKey k) answerIn NotFound (entries c)
 
+-- where packets for an entry go
+abbrev pub sentTo : Entry → List HardwareAddress
+sentTo e = sendsTo (e .state)
+
 pub record LookedUp (c : NeighborCache) (iface : ℕ) (addr : Ipv6Addr) (r : Answer) : Type 0 where
   pub is : r ≡ lookupBy (keyCheck iface addr) c (key iface addr)
   pub number : answerNumber r ≡ checkNumber (keyCheck iface addr)
+  pub found : answerFound r ≡ unless (keyCheck iface addr) (firstOf (isKey (key iface addr)) sentTo [] (entries c))
 
 -- Calls that change the entries: "A refusal returns its number and changes nothing."
 
@@ -105,9 +116,14 @@ abbrev pub getBy : Check → NeighborCache → Key → Got
 getBy (Fails why) c k = Rejected why
 getBy Fine c k = firstOf (isKey k) shown Nothing (entries c)
 
+-- an entry as it is listed, and nothing else
+abbrev pub alone : Entry → List Neighbor
+alone e = listed e ∷ []
+
 pub record GotBy (c : NeighborCache) (iface : ℕ) (addr : Ipv6Addr) (r : Got) : Type 0 where
   pub is : r ≡ getBy (ifaceCheck iface) c (key iface addr)
   pub number : gotNumber r ≡ checkNumber (ifaceCheck iface)
+  pub shows : gotShown r ≡ unless (ifaceCheck iface) (firstOf (isKey (key iface addr)) alone [] (entries c))
 
 -- the entry at an index, for a listing
 abbrev pub atIndex : NeighborCache → ℕ → Got
@@ -123,3 +139,4 @@ removeBy Fine c k =
 pub record RemovedTo (c : NeighborCache) (iface : ℕ) (addr : Ipv6Addr) (r : Removed) : Type 0 where
   pub is : r ≡ removeBy (ifaceCheck iface) c (key iface addr)
   pub number : gotNumber (r .taken) ≡ checkNumber (ifaceCheck iface)
+  pub shows : gotShown (r .taken) ≡ unless (ifaceCheck iface) (firstOf (isKey (key iface addr)) alone [] (entries c))

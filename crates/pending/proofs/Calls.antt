@@ -3,14 +3,14 @@ use Prim.Native.Nat.{ℕ, _+_, _≤_, _<_, min}
 use borrow.Author.Tests.{lt-ltb, le-ltb}
 use lib.ListN.{length, take, drop, set, getD, length-append, drop-of-length-le}
 use lib.Seq.{take-append-seam, drop-append-seam, drop-set-lt}
-use mathlib.Core.Bool.{Bool, true, false, not}
+use mathlib.Core.Bool.{Bool, true, false, cond, not, true≢false}
 use mathlib.Core.List.{List, [], _∷_, _++_}
 use mathlib.Core.Path.{_≡_, refl, sym, ap, ap₂, _∙_}
 use native.Mathlib.Omega.{arith}
-use Rattle.neighbor.specs.CacheCalls.{key, ifaceCheck}
+use Rattle.neighbor.specs.CacheCalls.{key, ifaceCheck, unless}
 use Rattle.neighbor.specs.NeighborRules.{Table, Key, isKey}
 use Rattle.neighbor.specs.declared.Outcome.the-variants.{Refused, Done}
-use Rattle.pending.specs.QueueCalls.{packets, withPackets, blank, zeros, pushNumber, pushBy, PushedTo, releaseBy, ReleasedTo, purgedOf, purgeBy, PurgedTo, atIndex}
+use Rattle.pending.specs.QueueCalls.{packets, withPackets, blank, zeros, pushNumber, pushedOut, pushBy, PushedTo, releaseNumber, releasedOut, handleAlone, releaseBy, ReleasedTo, purgedOf, purgeBy, PurgedTo, atIndex}
 use Rattle.pending.specs.QueueRules.{Queue, keyOf, packet, hasKey, isFull, pushList, oldest, pushAnswer, gone, releaseList, handed, releaseAnswer, awaitsIn, orphaned, onIface, droppedHandles}
 use Rattle.pending.specs.declared.Handles.{Handles}
 use Rattle.pending.specs.declared.PendingPacket.{PendingPacket}
@@ -24,7 +24,7 @@ use Rattle.pending.specs.declared.Release.{Release}
 use Rattle.pending.specs.declared.Released.{Released}
 use Rattle.pending.specs.declared.Waiting.the-variants.{Nothing as NoPacket, Is}
 use Rattle.table.proofs.Laws.{Made, made, counted, entry-at, entries-from, at-end, one-more, agree-from, Collecting, collect, nothing, collected, Compacting, compacting, next, one-gone, one-kept, compacted, Moving, moved, Finding, found-goes, found-any, absent-any, Scanning, scan-found}
-use Rattle.table.specs.Table.{filled, firstOf, kept, without}
+use Rattle.table.specs.Table.{filled, anyOf, firstOf, kept, without}
 use Rattle.wire.specs.Refusals.{checkNumber}
 use Rattle.wire.specs.declared.error.Check.the-variants.{Fine, Refused as Fails}
 use Rattle.wire.specs.declared.error.Check.{Check}
@@ -54,10 +54,24 @@ appended {s₀} {xs} {s} {k} y m h =
 
 -- Push
 
+push-gives : (b : Bool) (h : ℕ) → pushedOut (cond b (Dropped h) Queued) ≡ cond b (h ∷ []) []
+push-gives true h = refl
+push-gives false h = refl
+
+pushed-by : (x : Check) (q : PendingQueue) (p : PendingPacket) → pushedOut (pushBy x q p .answer) ≡ unless x (cond (isFull (packets q)) (oldest (packets q) ∷ []) [])
+unfolding pushAnswer
+pushed-by (Fails why) q p = refl
+pushed-by Fine q p = push-gives (isFull (packets q)) (oldest (packets q))
+
 module _ (q : PendingQueue) (iface : ℕ) (addr : Ipv6Addr) (handle : ℕ) where
+  pushed-as : (r : Pushed) → r ≡ pushBy (ifaceCheck iface) q (packet (key iface addr) handle) → pushNumber (r .answer) ≡ checkNumber (ifaceCheck iface)
+      → PushedTo q iface addr handle r
+  pushed-as r e n =
+      record { is = e; number = n; gives = ap (λ (x : Pushed). pushedOut (x .answer)) e ∙ pushed-by (ifaceCheck iface) q (packet (key iface addr) handle) }
+
   pub push-refused : (why : Refusal) → ifaceCheck iface ≡ Fails why → PushedTo q iface addr handle (record { queue = q; answer = Denied why })
   push-refused why e =
-      record { is = ap (λ (x : Check). pushBy x q (packet (key iface addr) handle)) (sym e); number = ap checkNumber (sym e) }
+      pushed-as _ (ap (λ (x : Check). pushBy x q (packet (key iface addr) handle)) (sym e)) (ap checkNumber (sym e))
 
   pub pushed : (s : Queue) (n : ℕ) (a : Push) → ifaceCheck iface ≡ Fine → Made (q .slots) (pushList (packet (key iface addr) handle) (packets q)) s n
       → a ≡ pushAnswer (packets q) → pushNumber a ≡ 0 → PushedTo q iface addr handle (record { queue = record { slots = s; len = n }; answer = a })
@@ -66,7 +80,7 @@ module _ (q : PendingQueue) (iface : ℕ) (addr : Ipv6Addr) (handle : ℕ) where
       (record { queue = withPackets q (pushList (packet (key iface addr) handle) (packets q)); answer = pushAnswer (packets q) }) =
       ap₂ (λ (x : PendingQueue) (y : Push). record { queue = x; answer = y })
       (ap₂ (λ (x : Queue) (y : ℕ). record { slots = x; len = y }) (m .slots) (m .count)) t in
-      record { is = made ∙ ap (λ (x : Check). pushBy x q (packet (key iface addr) handle)) (sym e); number = z ∙ ap checkNumber (sym e) }
+      pushed-as _ (made ∙ ap (λ (x : Check). pushBy x q (packet (key iface addr) handle)) (sym e)) (z ∙ ap checkNumber (sym e))
 
 module _ (y : PendingPacket) (s : Queue) (len n : ℕ) (full : length s ≡ 8) (e : n ≡ min len 8) where
   count : n ≡ length (take len s)
@@ -111,15 +125,49 @@ pub record Seeking (k : Key) (s : Queue) (len n i : ℕ) : Type 0 where
   pub finding : Finding 8 (hasKey k) gone [] s len n i
   pub scanning : Scanning 8 (hasKey k) handed Nothing s len n i
 
+-- an answer by the first packet of the key, or where none is there
+gives-first : (k : Key) (ps : Queue) → releasedOut (firstOf (hasKey k) handed Nothing ps) ≡ firstOf (hasKey k) handleAlone [] ps
+gives-first k [] = refl
+gives-first k (p ∷ ps) = go (hasKey k p) (gives-first k ps)
+  where
+    go : (x : Bool) → releasedOut (firstOf (hasKey k) handed Nothing ps) ≡ firstOf (hasKey k) handleAlone [] ps
+        → releasedOut (cond x (handed p) (firstOf (hasKey k) handed Nothing ps)) ≡ cond x (handleAlone p) (firstOf (hasKey k) handleAlone [] ps)
+    go true h = refl
+    go false h = h
+
+gives-none : (k : Key) (ps : Queue) → anyOf (hasKey k) ps ≡ false → firstOf (hasKey k) handleAlone [] ps ≡ []
+gives-none k [] h = refl
+gives-none k (p ∷ ps) h = go (hasKey k p) (gives-none k ps) h
+  where
+    go : (x : Bool) → (anyOf (hasKey k) ps ≡ false → firstOf (hasKey k) handleAlone [] ps ≡ []) → cond x true (anyOf (hasKey k) ps) ≡ false
+        → cond x (handleAlone p) (firstOf (hasKey k) handleAlone [] ps) ≡ []
+    go true g h = absurd (true≢false h)
+    go false g h = g h
+
+released-by : (x : Check) (q : PendingQueue) (k : Key) → releasedOut (releaseBy x q k .answer) ≡ unless x (firstOf (hasKey k) handleAlone [] (packets q))
+unfolding releaseAnswer
+released-by (Fails why) q k = refl
+released-by Fine q k = go (anyOf (hasKey k) (packets q)) refl
+  where
+    go : (b : Bool) → anyOf (hasKey k) (packets q) ≡ b
+        → releasedOut (cond {A = Released} b (record { queue = withPackets q (releaseList k (packets q)); answer = releaseAnswer k (packets q) }) (record { queue = q; answer = Nothing }) .answer)
+        ≡ firstOf (hasKey k) handleAlone [] (packets q)
+    go true e = gives-first k (packets q)
+    go false e = sym (gives-none k (packets q) e)
+
 module _ (q : PendingQueue) (iface : ℕ) (addr : Ipv6Addr) where
+  released-as : (r : Released) → r ≡ releaseBy (ifaceCheck iface) q (key iface addr) → releaseNumber (r .answer) ≡ checkNumber (ifaceCheck iface) → ReleasedTo q iface addr r
+  released-as r e n =
+      record { is = e; number = n; gives = ap (λ (x : Released). releasedOut (x .answer)) e ∙ released-by (ifaceCheck iface) q (key iface addr) }
+
   pub release-refused : (why : Refusal) → ifaceCheck iface ≡ Fails why → ReleasedTo q iface addr (record { queue = q; answer = Rejected why })
-  release-refused why e = record { is = ap (λ (x : Check). releaseBy x q (key iface addr)) (sym e); number = ap checkNumber (sym e) }
+  release-refused why e = released-as _ (ap (λ (x : Check). releaseBy x q (key iface addr)) (sym e)) (ap checkNumber (sym e))
 
   module _ {n i : ℕ} (inv : Seeking (key iface addr) (q .slots) (q .len) n i) (e : ifaceCheck iface ≡ Fine) where
     pub release-none : n ≤ i → ReleasedTo q iface addr (record { queue = q; answer = Nothing })
     release-none h =
         let w : record { queue = q; answer = Nothing } ≡ releaseBy Fine q (key iface addr) = simp (absent-any blank (inv .finding) h) in
-        record { is = w ∙ ap (λ (x : Check). releaseBy x q (key iface addr)) (sym e); number = ap checkNumber (sym e) }
+        released-as _ (w ∙ ap (λ (x : Check). releaseBy x q (key iface addr)) (sym e)) (ap checkNumber (sym e))
 
     pub released : (t : Queue) (hole : ℕ) → i < n → hasKey (key iface addr) (getD (q .slots) i blank) ≡ true
         → Made (q .slots) (without (packets q) i) t hole
@@ -134,7 +182,7 @@ module _ (q : PendingQueue) (iface : ℕ) (addr : Ipv6Addr) where
         (ap₂ (λ (x : Queue) (y : ℕ). record { slots = x; len = y }) (m .slots ∙ ap (λ (u : Queue). filled (q .slots) u) l) (m .count ∙ ap length l)) a in
         let w : record { queue = withPackets q (releaseList (key iface addr) (packets q)); answer = releaseAnswer (key iface addr) (packets q) }
         ≡ releaseBy Fine q (key iface addr) = simp (found-any blank (inv .finding) h g) in
-        record { is = made ∙ (w ∙ ap (λ (x : Check). releaseBy x q (key iface addr)) (sym e)); number = ap checkNumber (sym e) }
+        released-as _ (made ∙ (w ∙ ap (λ (x : Check). releaseBy x q (key iface addr)) (sym e))) (ap checkNumber (sym e))
 
 -- Purges: the loop keeps what stays, and collects the handles of what goes
 

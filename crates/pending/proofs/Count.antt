@@ -8,7 +8,8 @@ use mathlib.Core.List.{List, [], _∷_, _++_, map}
 use mathlib.Core.Path.{_≡_, refl}
 use native.Mathlib.Omega.{arith}
 use Rattle.neighbor.specs.NeighborRules.{Key}
-use Rattle.pending.specs.QueueCount.{countOf, waiting, pushedOut, releasedOut, Accounted}
+use Rattle.pending.specs.QueueCalls.{pushedOut, releasedOut}
+use Rattle.pending.specs.QueueCount.{countOf, waiting, Accounted}
 use Rattle.pending.specs.QueueRules.{Queue, handleOf, hasKey, pushList, oldest, pushAnswer, gone, releaseList, handed, releaseAnswer, droppedHandles}
 use Rattle.pending.specs.declared.PendingPacket.{PendingPacket}
 use Rattle.pending.specs.declared.Push.the-variants.{Queued, Dropped}

@@ -2,17 +2,17 @@
 use Prim.Native.Nat.{ℕ}
 use mathlib.Core.Path.{_≡_}
 use mathlib.Core.Bool.{Bool, cond}
-use mathlib.Core.List.{List, []}
+use mathlib.Core.List.{List, [], _∷_}
 use lib.ListN.{take, length, getD, replicate}
 use lib.Dec.{ltb}
-use Rattle.table.specs.Table.{filled, anyOf, kept}
+use Rattle.table.specs.Table.{filled, anyOf, firstOf, kept}
 use Rattle.wire.specs.declared.ipv6.Ipv6Addr.{Ipv6Addr}
 use Rattle.wire.specs.declared.error.Check.{Check}
 use Rattle.wire.specs.declared.error.Check.the-variants.{Fine, Refused as Fails}
 use Rattle.wire.specs.Refusals.{numberOf, checkNumber}
 use Rattle.neighbor.specs.declared.Outcome.the-variants.{Refused, Done}
 use Rattle.neighbor.specs.Answers.{outcomeNumber}
-use Rattle.neighbor.specs.CacheCalls.{key, ifaceCheck}
+use Rattle.neighbor.specs.CacheCalls.{key, ifaceCheck, unless}
 use Rattle.neighbor.specs.NeighborRules.{Key}
 use Rattle.pending.specs.declared.PendingPacket.{PendingPacket}
 use Rattle.pending.specs.declared.PendingQueue.{PendingQueue}
@@ -26,7 +26,7 @@ use Rattle.pending.specs.declared.Released.{Released}
 use Rattle.pending.specs.declared.Purged.{Purged}
 use Rattle.pending.specs.declared.Waiting.{Waiting}
 use Rattle.pending.specs.declared.Waiting.the-variants.{Nothing as NoPacket, Is}
-use Rattle.pending.specs.QueueRules.{Queue, packet, hasKey, pushList, pushAnswer, releaseList, releaseAnswer, onIface, droppedHandles}
+use Rattle.pending.specs.QueueRules.{Queue, handleOf, packet, hasKey, isFull, oldest, pushList, pushAnswer, releaseList, releaseAnswer, onIface, droppedHandles}
 
 -- the packets: the first `len` slots; "A count above its size reads as the size"
 abbrev pub packets : PendingQueue → Queue
@@ -50,17 +50,27 @@ zeros = replicate 8 0
 abbrev pub handlesOf : List ℕ → Handles
 handlesOf hs = record { slots = filled zeros hs; len = length hs }
 
--- document 01's number of an answer, 0 for none
+-- document 01's number of an answer, 0 for none, and the handle that it gives back
 
 abbrev pub pushNumber : Push → ℕ
 pushNumber (Denied why) = numberOf why
 pushNumber Queued = 0
 pushNumber (Dropped h) = 0
 
+abbrev pub pushedOut : Push → List ℕ
+pushedOut (Denied why) = []
+pushedOut Queued = []
+pushedOut (Dropped h) = h ∷ []
+
 abbrev pub releaseNumber : Release → ℕ
 releaseNumber (Rejected why) = numberOf why
 releaseNumber Nothing = 0
 releaseNumber (Handle h) = 0
+
+abbrev pub releasedOut : Release → List ℕ
+releasedOut (Rejected why) = []
+releasedOut Nothing = []
+releasedOut (Handle h) = h ∷ []
 
 -- Push
 
@@ -71,8 +81,13 @@ pushBy Fine q p = record { queue = withPackets q (pushList p (packets q)); answe
 pub record PushedTo (q : PendingQueue) (iface : ℕ) (addr : Ipv6Addr) (handle : ℕ) (r : Pushed) : Type 0 where
   pub is : r ≡ pushBy (ifaceCheck iface) q (packet (key iface addr) handle)
   pub number : pushNumber (r .answer) ≡ checkNumber (ifaceCheck iface)
+  pub gives : pushedOut (r .answer) ≡ unless (ifaceCheck iface) (cond (isFull (packets q)) (oldest (packets q) ∷ []) [])
 
 -- Release
+
+-- a packet's handle, and nothing else
+abbrev pub handleAlone : PendingPacket → List ℕ
+handleAlone p = handleOf p ∷ []
 
 abbrev pub releaseBy : Check → PendingQueue → Key → Released
 releaseBy (Fails why) q k = record { queue = q; answer = Rejected why }
@@ -83,6 +98,7 @@ releaseBy Fine q k =
 pub record ReleasedTo (q : PendingQueue) (iface : ℕ) (addr : Ipv6Addr) (r : Released) : Type 0 where
   pub is : r ≡ releaseBy (ifaceCheck iface) q (key iface addr)
   pub number : releaseNumber (r .answer) ≡ checkNumber (ifaceCheck iface)
+  pub gives : releasedOut (r .answer) ≡ unless (ifaceCheck iface) (firstOf (hasKey (key iface addr)) handleAlone [] (packets q))
 
 -- Purges
 

@@ -9,10 +9,7 @@ use lib.Dec.{eqb}
 use Rattle.table.specs.Table.{kept}
 use Rattle.neighbor.specs.NeighborRules.{Key}
 use Rattle.pending.specs.declared.PendingPacket.{PendingPacket}
-use Rattle.pending.specs.declared.Push.{Push}
-use Rattle.pending.specs.declared.Push.the-variants.{Refused as Denied, Queued, Dropped}
-use Rattle.pending.specs.declared.Release.{Release}
-use Rattle.pending.specs.declared.Release.the-variants.{Refused as Rejected, Nothing, Handle}
+use Rattle.pending.specs.QueueCalls.{pushedOut, releasedOut}
 use Rattle.pending.specs.QueueRules.{Queue, handleOf, pushList, pushAnswer, releaseList, releaseAnswer, droppedHandles}
 
 -- how often a handle is among these
@@ -23,17 +20,6 @@ countOf h (x ∷ xs) = cond (eqb h x) (suc (countOf h xs)) (countOf h xs)
 -- how often it waits
 unfoldable pub waiting : ℕ → Queue → ℕ
 waiting h q = countOf h (map handleOf q)
-
--- the handles that an answer gives back
-abbrev pub pushedOut : Push → List ℕ
-pushedOut (Denied why) = []
-pushedOut Queued = []
-pushedOut (Dropped h) = h ∷ []
-
-abbrev pub releasedOut : Release → List ℕ
-releasedOut (Rejected why) = []
-releasedOut Nothing = []
-releasedOut (Handle h) = h ∷ []
 
 pub record Accounted : Type 0 where
   pub push : (h : ℕ) (p : PendingPacket) (q : Queue)
