@@ -8,20 +8,20 @@ fields = {
 offsets = {'PolledAt': [0, 24]}
 enums = ['Outcome']
 homes = {
-    'NeighborCache': 'neighbor', 'Outcome': 'neighbor', 'Swept': 'sweep', 'Events': 'sweep', 'Clock': 'time', 'Slaac': 'learned', 'IfaceAddrs': 'iface::addr',
-    'Routes': 'iface::route', 'HardwareAddress': 'wire::ethernet', 'Polled': 'slaac', 'PolledAt': 'slaac',
+    'NeighborCache': 'neighbor', 'Outcome': 'wire::error', 'Swept': 'sweep', 'Events': 'sweep', 'Clock': 'time', 'Slaac': 'slaac', 'IfaceAddrs': 'iface::addr',
+    'Routes': 'iface::route', 'HardwareAddress': 'wire::ethernet', 'Polled': 'autoconf', 'PolledAt': 'autoconf',
 }
 swept = [('cache', 'NeighborCache')]
 polled = [('slaac', 'Slaac'), ('addrs', 'IfaceAddrs'), ('routes', 'Routes'), ('iface', 'u8'), ('up', 'bool'), ('hw', 'HardwareAddress'), ('buf', '&mut [u8]')]
 callees = {
     'sweep_at': dict(params=swept + [('clock', 'Clock'), ('iface', 'u8')], result='Swept', said='SweptTo cache clock iface r', home='sweep'),
-    'poll_at': dict(params=polled + [('clock', 'Clock')], result='PolledAt', said='PolledTo slaac addrs routes iface up hw buf clock r buf′', home='slaac'),
+    'poll_at': dict(params=polled + [('clock', 'Clock')], result='PolledAt', said='PolledTo slaac addrs routes iface up hw buf clock r buf′', home='autoconf'),
 }
 walks = [
     dict(fn='sweep', params=swept + [('clock', '&mut Clock'), ('iface', 'u8')], result='Reported', large=['Swept'],
          uses=['use Rattle.sweep.specs.SweepCalls.{SweptTo}', 'use Rattle.lent.specs.LentRules.{ReportedTo}', 'use Rattle.lent.proofs.LentLaws.{reported}'],
          ensures='ReportedTo cache clock iface res clock′', proof='reported _ _ _ _ e1'),
     dict(fn='poll', params=polled + [('clock', '&mut Clock')], result='Polled', large=['PolledAt'],
-         uses=['use Rattle.slaac.specs.PollRules.{PolledTo}', 'use Rattle.lent.specs.LentRules.{PolledBy}', 'use Rattle.lent.proofs.LentLaws.{polled-by}'],
+         uses=['use Rattle.autoconf.specs.PollRules.{PolledTo}', 'use Rattle.lent.specs.LentRules.{PolledBy}', 'use Rattle.lent.proofs.LentLaws.{polled-by}'],
          ensures='PolledBy slaac addrs routes iface up hw buf clock res buf′ clock′', proof='polled-by _ _ _ _ _ _ _ _ _ _ e1'),
 ]

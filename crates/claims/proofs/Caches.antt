@@ -15,10 +15,11 @@ use Rattle.claims.specs.Watch.{reportsAll}
 use Rattle.iface.specs.AddressRules.{clearAddrs}
 use Rattle.iface.specs.declared.addr.IfaceAddrs.{IfaceAddrs}
 use Rattle.iface.specs.declared.route.Routes.{Routes}
-use Rattle.learned.specs.declared.Outcome.the-variants.{Done}
-use Rattle.learned.specs.declared.Slaac.{Slaac}
+use Rattle.wire.specs.declared.error.Outcome.the-variants.{Done}
+use Rattle.slaac.specs.declared.Slaac.{Slaac}
 use Rattle.neighbor.specs.Answers.{answerOf}
-use Rattle.neighbor.specs.CacheCalls.{key, entries, withEntries, changeBy, ChangedTo, lookupBy, getBy, removeBy, keyCheck, fillCheck, ifaceCheck, answerIn, shown, blank}
+use Rattle.neighbor.specs.CacheCalls.{key, entries, withEntries, changeBy, ChangedTo, lookupBy, getBy, removeBy, answerIn, shown, blank}
+use Rattle.wire.specs.Refusals.{fillCheck, keyCheck, ifaceCheck, timeCheck}
 use Rattle.neighbor.specs.Distinct.{Distinct}
 use Rattle.neighbor.specs.NeighborRules.{Table, Key, isKey, find, insertState, removeKey, clearIface}
 use Rattle.neighbor.specs.declared.Answer.the-variants.{NotFound}
@@ -30,14 +31,13 @@ use Rattle.neighbor.specs.declared.Removed.{Removed}
 use Rattle.neighbor.specs.declared.State.the-variants.{Started, Incomplete, Reachable, Stale}
 use Rattle.neighbor.specs.declared.State.{State}
 use Rattle.pending.specs.declared.PendingQueue.{PendingQueue}
-use Rattle.slaac.specs.Answers.{callCheck}
-use Rattle.slaac.specs.OffRules.{clearedCache, offNow, offBy}
-use Rattle.slaac.specs.SlaacRules.{messageCheck, optionsIn, lastSource, filledBy, step5, advertBy, callBy}
-use Rattle.slaac.specs.declared.AdvertAnswer.the-variants.{Off}
-use Rattle.slaac.specs.declared.Advertised.{Advertised}
-use Rattle.slaac.specs.declared.LinkLayerAddr.the-variants.{Nothing as NoAddr, Is as IsAddr}
-use Rattle.slaac.specs.declared.LinkLayerAddr.{LinkLayerAddr}
-use Rattle.slaac.specs.declared.TurnedOff.{TurnedOff}
+use Rattle.autoconf.specs.OffRules.{clearedCache, offNow, offBy}
+use Rattle.autoconf.specs.AdvertRules.{messageCheck, optionsIn, lastSource, filledBy, step5, messageBy, callBy}
+use Rattle.autoconf.specs.declared.AdvertAnswer.the-variants.{Off}
+use Rattle.autoconf.specs.declared.Advertised.{Advertised}
+use Rattle.autoconf.specs.declared.LinkLayerAddr.the-variants.{Nothing as NoAddr, Is as IsAddr}
+use Rattle.autoconf.specs.declared.LinkLayerAddr.{LinkLayerAddr}
+use Rattle.autoconf.specs.declared.TurnedOff.{TurnedOff}
 use Rattle.sweep.proofs.Entries.{entries-of, sweep-entries, sweep-events}
 use Rattle.sweep.specs.SweepCalls.{nothing, slotOf, eventsTable, sweptIn, sweepBy, sweepCheck}
 use Rattle.sweep.specs.SweepRules.{sweepTable}
@@ -52,7 +52,7 @@ use Rattle.wire.specs.declared.ipv6.Ipv6Addr.{Ipv6Addr}
 
 -- a call that changes the entries
 changes : (x : Check) (call : Call) (c : NeighborCache) (xs : Table) → does (meant call) (entries c) ≡ xs → reply call (entries c) ≡ done
-    → (ofOutcome (changeBy x c xs .outcome) ≡ answerBy x call (entries c)) × (entries (changeBy x c xs .cache) ≡ does (effectBy x call) (entries c))
+    → (ofOutcome (changeBy x c (withEntries c xs) .outcome) ≡ answerBy x call (entries c)) × (entries (changeBy x c (withEntries c xs) .cache) ≡ does (effectBy x call) (entries c))
 changes (Fails why) call c xs h g = (refl, refl)
 changes Fine call c xs h g = (sym g, entries-of c xs ∙ sym h)
 
@@ -153,7 +153,7 @@ telling (IsAddr h) c i source now = go (isUnicastHardware h)
     go false = refl
 
 message : (y : Check) (s : Slaac) (c : NeighborCache) (i : ℕ) (source : Ipv6Addr) (msg : List ℕ) (now : Instant)
-    → entries (advertBy y s c i source msg now .cache) ≡ does (meant (advertise (key i source) now (heardMessage y (lastSource (optionsIn msg))))) (entries c)
+    → entries (messageBy y s c i source msg now .cache) ≡ does (meant (advertise (key i source) now (heardMessage y (lastSource (optionsIn msg))))) (entries c)
 message (Fails why) s c i source msg now = refl
 message Fine s c i source msg now = telling (lastSource (optionsIn msg)) c i source now
 
@@ -164,7 +164,7 @@ hearing (Fails why) s c i source msg now = refl
 hearing Fine s c i source msg now = go (s .on)
   where
     go : (b : Bool)
-        → entries (cond {A = Advertised} b (advertBy (messageCheck source msg) s c i source msg now) (record { slaac = s; cache = c; answer = Off }) .cache)
+        → entries (cond {A = Advertised} b (messageBy (messageCheck source msg) s c i source msg now) (record { slaac = s; cache = c; answer = Off }) .cache)
         ≡ does (meant (advertise (key i source) now (cond b (heardMessage (messageCheck source msg) (lastSource (optionsIn msg))) silence))) (entries c)
     go true = message (messageCheck source msg) s c i source msg now
     go false = refl
@@ -191,7 +191,7 @@ turning Fine s t r c q i = go (s .on)
 abbrev Follows : NeighborCache → Call → Answer → NeighborCache → Type 0
 Follows c call a d = (a ≡ answer call (entries c)) × (entries d ≡ next call (entries c))
 
-changed : (x : Check) (call : Call) (c : NeighborCache) (r : Changed) → ChangedTo x c (does (meant call) (entries c)) r → reply call (entries c) ≡ done
+changed : (x : Check) (call : Call) (c : NeighborCache) (r : Changed) → ChangedTo x c (withEntries c (does (meant call) (entries c))) r → reply call (entries c) ≡ done
     → (ofOutcome (r .outcome) ≡ answerBy x call (entries c)) × (entries (r .cache) ≡ does (effectBy x call) (entries c))
 changed x call c r h g = rw (h .is) (changes x call c (does (meant call) (entries c)) refl g)
 
@@ -205,7 +205,7 @@ follows (gets c i a r h) = (ap ofGot (h .is) ∙ getting (ifaceCheck i) c (key i
 follows (lists c n r h) = (ap ofGot h ∙ listing (ltb n (length (entries c))) (getD (entries c) n blank), refl)
 follows (removes c i a r h) = rw (h .is) (removing (ifaceCheck i) c (key i a))
 follows (clears c i r h) = changed (ifaceCheck i) (clear i) c r h refl
-follows (advertises c s i source msg now r h) = (refl, ap (λ (q : Advertised). entries (q .cache)) (h .is) ∙ hearing (callCheck now i) s c i source msg now)
+follows (advertises c s i source msg now r h) = (refl, ap (λ (q : Advertised). entries (q .cache)) (h .is) ∙ hearing (timeCheck now i) s c i source msg now)
 follows (turns-off c s t r q i x h) = (refl, ap (λ (w : TurnedOff). entries (w .cache)) (h .is) ∙ turning (ifaceCheck i) s t r c q i)
 follows (sweeps c k k' i r h) = rw (h .is) (sweeping (sweepCheck k i) c k i)
 follows (sweeps-at c k i r h) = rw (h .is) (sweeping (sweepCheck k i) c k i)

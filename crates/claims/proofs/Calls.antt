@@ -16,13 +16,12 @@ use Rattle.claims.specs.Watch.{reportsIn, reportsAll, gone, watchOfState
 use Rattle.neighbor.proofs.Distinct.{distinct-put, distinct-remove, distinct-clear}
 use Rattle.neighbor.proofs.Keys.{sameKey-true}
 use Rattle.neighbor.proofs.OneKey.{put-own, remove-own, remove-other, clear-own, clear-other}
-use Rattle.neighbor.specs.CacheCalls.{keyCheck, fillCheck, ifaceCheck}
+use Rattle.wire.specs.Refusals.{fillCheck, keyCheck, ifaceCheck, firstRefusal, tooLate, noSuchIface}
 use Rattle.neighbor.specs.Distinct.{Distinct}
 use Rattle.neighbor.specs.NeighborRules.{Table, Key, sameKey, insertState, removeKey, onIface, clearIface, entriesOf}
 use Rattle.neighbor.specs.declared.State.{State}
 use Rattle.table.specs.Table.{kept}
 use Rattle.time.specs.declared.Instant.{Instant}
-use Rattle.wire.specs.Refusals.{firstRefusal, tooLate, noSuchIface}
 use Rattle.wire.specs.declared.error.Check.the-variants.{Fine, Refused as Fails}
 use Rattle.wire.specs.declared.error.Check.{Check}
 use Rattle.wire.specs.declared.error.Refusal.the-variants.{TooLate, NoSuchIface}

@@ -9,26 +9,27 @@ use Rattle.iface.specs.declared.addr.IfaceAddrs.{IfaceAddrs}
 use Rattle.iface.specs.declared.addr.Source.the-variants.{Nothing, From}
 use Rattle.iface.specs.declared.addr.Source.{Source}
 use Rattle.iface.specs.declared.route.Routes.{Routes}
-use Rattle.learned.specs.DiscoveryRules.{duePhase, due, retryAt, sent, solicitation, withDiscovery}
-use Rattle.learned.specs.ExpiryRules.{askPrefix, askRouter, syncDue}
-use Rattle.learned.specs.LearnedRules.{prefixesOf, routersOf}
-use Rattle.learned.specs.declared.Discovery.{Discovery}
-use Rattle.learned.specs.declared.Phase.the-variants.{Start, Discovering, Maintaining}
-use Rattle.learned.specs.declared.Phase.{Phase}
-use Rattle.learned.specs.declared.Prefix.{Prefix}
-use Rattle.learned.specs.declared.Router.{Router}
-use Rattle.learned.specs.declared.Slaac.{Slaac}
-use Rattle.learned.specs.declared.Solicitation.{Solicitation}
+use Rattle.slaac.specs.DiscoveryRules.{duePhase, due, retryAt, sent, solicitation}
+use Rattle.slaac.specs.Fields.{withDiscovery}
+use Rattle.slaac.specs.ExpiryRules.{askPrefix, askRouter, syncDue}
+use Rattle.slaac.specs.LearnedRules.{prefixesOf, routersOf}
+use Rattle.slaac.specs.declared.Discovery.{Discovery}
+use Rattle.slaac.specs.declared.Phase.the-variants.{Start, Discovering, Maintaining}
+use Rattle.slaac.specs.declared.Phase.{Phase}
+use Rattle.slaac.specs.declared.Prefix.{Prefix}
+use Rattle.slaac.specs.declared.Router.{Router}
+use Rattle.slaac.specs.declared.Slaac.{Slaac}
+use Rattle.slaac.specs.declared.Solicitation.{Solicitation}
 use Rattle.neighbor.specs.NeighborRules.{Table}
 use Rattle.neighbor.specs.declared.NeighborCache.{NeighborCache}
 use Rattle.neighbor.specs.declared.State.the-variants.{Started, Incomplete, Reachable, Stale}
 use Rattle.neighbor.specs.declared.State.{State}
-use Rattle.slaac.specs.Answers.{callCheck}
-use Rattle.slaac.specs.PollRules.{turnOf, synced, syncTurn, senderIn, pollOn, pollBy}
-use Rattle.slaac.specs.declared.PollAnswer.the-variants.{Off}
-use Rattle.slaac.specs.declared.PollAnswer.{PollAnswer}
-use Rattle.slaac.specs.declared.PolledAt.{PolledAt}
-use Rattle.slaac.specs.declared.Turn.{Turn}
+use Rattle.wire.specs.Refusals.{timeCheck}
+use Rattle.autoconf.specs.PollRules.{turnOf, synced, syncTurn, senderIn, pollOn, pollBy}
+use Rattle.autoconf.specs.declared.PollAnswer.the-variants.{Off}
+use Rattle.autoconf.specs.declared.PollAnswer.{PollAnswer}
+use Rattle.autoconf.specs.declared.PolledAt.{PolledAt}
+use Rattle.autoconf.specs.declared.Turn.{Turn}
 use Rattle.sweep.specs.SweepCalls.{sweptIn, sweepBy, sweepCheck}
 use Rattle.sweep.specs.SweepRules.{dueFrom, expireClockState, expireClock, expireClocks}
 use Rattle.sweep.specs.declared.Swept.{Swept}
@@ -146,6 +147,6 @@ clocks = record {
   sweep = λ c k k' i r h. subst (Forward k) (sym (h .clock)) (swept-forward (sweepCheck k i) c k i);
   sweep-at = λ c k i r h. subst (λ (s : Swept). Forward k (s .clock)) (sym (h .is)) (swept-forward (sweepCheck k i) c k i);
   poll-at =
-      λ s t r i up hw buf k p buf' h. subst (λ (q : PolledAt). Forward k (q .clock)) (sym (h .is)) (poll-forward (callCheck (k .now) i) s t r i up hw buf k);
-  poll = λ s t r i up hw buf k p buf' k' h. subst (Forward k) (sym (h .clock)) (poll-forward (callCheck (k .now) i) s t r i up hw buf k);
+      λ s t r i up hw buf k p buf' h. subst (λ (q : PolledAt). Forward k (q .clock)) (sym (h .is)) (poll-forward (timeCheck (k .now) i) s t r i up hw buf k);
+  poll = λ s t r i up hw buf k p buf' k' h. subst (Forward k) (sym (h .clock)) (poll-forward (timeCheck (k .now) i) s t r i up hw buf k);
 }

@@ -14,31 +14,32 @@ use Rattle.iface.specs.declared.addr.IfaceAddrs.{IfaceAddrs}
 use Rattle.iface.specs.declared.route.AddedRoute.{AddedRoute}
 use Rattle.iface.specs.declared.route.Route.{Route}
 use Rattle.iface.specs.declared.route.Routes.{Routes}
-use Rattle.learned.specs.DiscoveryRules.{ifaceCheck, changeBy, restarted as restartedOf, turnedOn, begun, withDiscovery, fresh}
-use Rattle.learned.specs.ExpiryRules.{isValid, syncDue, leaveExpired}
-use Rattle.learned.specs.LearnedRules.{prefixesOf, routersOf, processPrefix}
-use Rattle.learned.specs.declared.Changed.{Changed}
-use Rattle.learned.specs.declared.Outcome.the-variants.{Done}
-use Rattle.learned.specs.declared.Prefix.{Prefix}
-use Rattle.learned.specs.declared.Router.{Router}
-use Rattle.learned.specs.declared.Slaac.{Slaac}
+use Rattle.slaac.specs.DiscoveryRules.{turnBy, restarted as restartedOf, turnedOn, begun, fresh}
+use Rattle.wire.specs.Refusals.{ifaceCheck, timeCheck}
+use Rattle.slaac.specs.Fields.{withDiscovery}
+use Rattle.slaac.specs.ExpiryRules.{syncDue, leaveExpired}
+use Rattle.slaac.specs.LearnedRules.{prefixesOf, routersOf, processPrefix}
+use Rattle.slaac.specs.declared.Changed.{Changed}
+use Rattle.wire.specs.declared.error.Outcome.the-variants.{Done}
+use Rattle.slaac.specs.declared.Prefix.{Prefix}
+use Rattle.slaac.specs.declared.Router.{Router}
+use Rattle.slaac.specs.declared.Slaac.{Slaac}
 use Rattle.ndisc.specs.Rfc4861Messages.{routerAdvertAt}
 use Rattle.ndisc.specs.declared.ndiscoption.PrefixInformation.{PrefixInformation}
 use Rattle.neighbor.specs.declared.NeighborCache.{NeighborCache}
 use Rattle.pending.specs.declared.PendingQueue.{PendingQueue}
-use Rattle.slaac.specs.Answers.{callCheck}
-use Rattle.slaac.specs.OffRules.{offNow, offBy}
-use Rattle.slaac.specs.PollRules.{syncTurn, turnOf, senderIn, pollOn, pollBy}
-use Rattle.slaac.specs.SlaacRules.{messageCheck, optionsIn, prefixOptions, step2, learned, advertBy, callBy}
-use Rattle.slaac.specs.SyncRules.{preferredOf, syncFormed, syncPrefix, syncRouter, syncAddrs, syncRoutes}
-use Rattle.slaac.specs.declared.AdvertAnswer.the-variants.{Off}
-use Rattle.slaac.specs.declared.Advertised.{Advertised}
-use Rattle.slaac.specs.declared.PollAnswer.the-variants.{Off as PollOff}
-use Rattle.slaac.specs.declared.PollAnswer.{PollAnswer}
-use Rattle.slaac.specs.declared.Polled.{Polled}
-use Rattle.slaac.specs.declared.PolledAt.{PolledAt}
-use Rattle.slaac.specs.declared.Turn.{Turn}
-use Rattle.slaac.specs.declared.TurnedOff.{TurnedOff}
+use Rattle.autoconf.specs.OffRules.{offNow, offBy}
+use Rattle.autoconf.specs.PollRules.{syncTurn, turnOf, senderIn, pollOn, pollBy}
+use Rattle.autoconf.specs.AdvertRules.{messageCheck, optionsIn, prefixOptions, step2, steps2to4, messageBy, callBy}
+use Rattle.autoconf.specs.SyncRules.{preferredOf, syncFormed, syncPrefix, syncRouter, syncAddrs, syncRoutes}
+use Rattle.autoconf.specs.declared.AdvertAnswer.the-variants.{Off}
+use Rattle.autoconf.specs.declared.Advertised.{Advertised}
+use Rattle.autoconf.specs.declared.PollAnswer.the-variants.{Off as PollOff}
+use Rattle.autoconf.specs.declared.PollAnswer.{PollAnswer}
+use Rattle.autoconf.specs.declared.Polled.{Polled}
+use Rattle.autoconf.specs.declared.PolledAt.{PolledAt}
+use Rattle.autoconf.specs.declared.Turn.{Turn}
+use Rattle.autoconf.specs.declared.TurnedOff.{TurnedOff}
 use Rattle.table.specs.Table.{foldOver}
 use Rattle.time.specs.ClockRules.{isAfter}
 use Rattle.time.specs.TimeRules.{secondsOf}
@@ -91,7 +92,7 @@ module _ (v : Expiry) (hw : HardwareAddress) (a : Ipv6Cidr) where
   options-last now (o ∷ os) s l h = options-last now os (processPrefix now s o) (process-lasts v hw a now s o l (h .0)) (h .1)
 
   learned-lasts : (s : Slaac) (source : Ipv6Addr) (msg : List ℕ) (now : Instant) → All lasts (prefixesOf s) → All (Spares v hw a now) (prefixOptions (optionsIn msg))
-      → All lasts (prefixesOf (learned s source msg now))
+      → All lasts (prefixesOf (steps2to4 s source msg now))
   unfolding step2
   learned-lasts s source msg now l h =
       subst (All lasts) (sym (router-apart v hw a now (step2 now s (optionsIn msg)) source (secondsOf (routerAdvertAt msg .«router_lifetime»))))
@@ -103,7 +104,7 @@ module _ (v : Expiry) (hw : HardwareAddress) (a : Ipv6Cidr) where
     long : All lasts (prefixesOf s)
 
   good-advert : (x : Check) (s : Slaac) (t : IfaceAddrs) (c : NeighborCache) (i : ℕ) (source : Ipv6Addr) (msg : List ℕ) (now : Instant)
-      → All (Spares v hw a now) (prefixOptions (optionsIn msg)) → Good s t → Good (advertBy x s c i source msg now .slaac) t
+      → All (Spares v hw a now) (prefixOptions (optionsIn msg)) → Good s t → Good (messageBy x s c i source msg now .slaac) t
   good-advert (Fails why) s t c i source msg now h g = g
   good-advert Fine s t c i source msg now h g = record { there = g .there; long = learned-lasts s source msg now (g .long) h }
 
@@ -112,7 +113,7 @@ module _ (v : Expiry) (hw : HardwareAddress) (a : Ipv6Cidr) where
   good-call (Fails why) s t c i source msg now h g = g
   good-call Fine s t c i source msg now h g = go (s .on)
     where
-      go : (b : Bool) → Good (cond {A = Advertised} b (advertBy (messageCheck source msg) s c i source msg now) (record { slaac = s; cache = c; answer = Off }) .slaac) t
+      go : (b : Bool) → Good (cond {A = Advertised} b (messageBy (messageCheck source msg) s c i source msg now) (record { slaac = s; cache = c; answer = Off }) .slaac) t
       go true = good-advert (messageCheck source msg) s t c i source msg now h g
       go false = g
 
@@ -148,7 +149,7 @@ module _ (v : Expiry) (hw : HardwareAddress) (a : Ipv6Cidr) where
       go true = good-sync (withDiscovery s (u .discovery)) t r i (k .now) (u .clock) (u .answer) early (record { there = g .there; long = g .long })
       go false = g
 
-  good-restart : (x : Check) (s : Slaac) (t : IfaceAddrs) → Good s t → Good (changeBy x s (restartedOf s) .slaac) t
+  good-restart : (x : Check) (s : Slaac) (t : IfaceAddrs) → Good s t → Good (turnBy x s (restartedOf s) .slaac) t
   good-restart (Fails why) s t g = g
   good-restart Fine s t g = go (s .on)
     where
@@ -156,7 +157,7 @@ module _ (v : Expiry) (hw : HardwareAddress) (a : Ipv6Cidr) where
       go true = record { there = g .there; long = g .long }
       go false = g
 
-  good-on : (x : Check) (s : Slaac) (t : IfaceAddrs) → Good s t → Good (changeBy x s (turnedOn s) .slaac) t
+  good-on : (x : Check) (s : Slaac) (t : IfaceAddrs) → Good s t → Good (turnBy x s (turnedOn s) .slaac) t
   good-on (Fails why) s t g = g
   good-on Fine s t g = go (s .on)
     where
@@ -171,11 +172,11 @@ module _ (v : Expiry) (hw : HardwareAddress) (a : Ipv6Cidr) where
 
   good-step : {i : ℕ} {x y : Host} {c : HostCall} → Step i hw x c y → Harmless v hw a c → Good (x .slaac) (x .addrs) → Good (y .slaac) (y .addrs)
   good-step {i} (advertised x c' source msg now r p) h g =
-      subst (λ (q : Advertised). Good (q .slaac) (x .addrs)) (sym (p .is)) (good-call (callCheck now i) (x .slaac) (x .addrs) c' i source msg now h g)
+      subst (λ (q : Advertised). Good (q .slaac) (x .addrs)) (sym (p .is)) (good-call (timeCheck now i) (x .slaac) (x .addrs) c' i source msg now h g)
   good-step {i} (polled x up buf buf' k k' r p) h g =
-      subst (λ (q : Polled). Good (q .slaac) (q .addrs)) (sym (p .is)) (good-poll (callCheck (k .now) i) (x .slaac) (x .addrs) (x .routes) i up buf k h g)
+      subst (λ (q : Polled). Good (q .slaac) (q .addrs)) (sym (p .is)) (good-poll (timeCheck (k .now) i) (x .slaac) (x .addrs) (x .routes) i up buf k h g)
   good-step {i} (polled-at x up buf buf' k r p) h g =
-      subst (λ (q : PolledAt). Good (q .polled .slaac) (q .polled .addrs)) (sym (p .is)) (good-poll (callCheck (k .now) i) (x .slaac) (x .addrs) (x .routes) i up buf k h g)
+      subst (λ (q : PolledAt). Good (q .polled .slaac) (q .polled .addrs)) (sym (p .is)) (good-poll (timeCheck (k .now) i) (x .slaac) (x .addrs) (x .routes) i up buf k h g)
   good-step {i} (restarted x r p) h g = subst (λ (q : Changed). Good (q .slaac) (x .addrs)) (sym (p .is)) (good-restart (ifaceCheck i) (x .slaac) (x .addrs) g)
   good-step {i} (turned-on x r p) h g = subst (λ (q : Changed). Good (q .slaac) (x .addrs)) (sym (p .is)) (good-on (ifaceCheck i) (x .slaac) (x .addrs) g)
   good-step {i} (addr-added x n r p) h g =
@@ -206,14 +207,14 @@ module _ (i : ℕ) (via : Ipv6Addr) where
 
   -- a router of interface j that has expired is another one
   abbrev Other : ℕ → Instant → Router → Type 0
-  Other j now r = isValid now (r .«valid_until») ≡ false → j ≡ i → r .addr ≡ via → ⊥
+  Other j now r = isAfter (At (r .«valid_until»)) now ≡ false → j ≡ i → r .addr ≡ via → ⊥
 
   sync-router : (j : ℕ) (now : Instant) (t : Routes) (r : Router) → Other j now r → routeStands i via (routesOf t) ≡ true
       → routeStands i via (routesOf (syncRouter j now t r)) ≡ true
   unfolding syncRouter
-  sync-router j now t r o h = go (isValid now (r .«valid_until»)) refl
+  sync-router j now t r o h = go (isAfter (At (r .«valid_until»)) now) refl
     where
-      go : (b : Bool) → isValid now (r .«valid_until») ≡ b
+      go : (b : Bool) → isAfter (At (r .«valid_until»)) now ≡ b
           → routeStands i via (routesOf (cond {A = Routes} b (withRoutes t (putRoute j (r .addr) (r .«valid_until») (routesOf t))) (withRoutes t (dropRoute j (r .addr) (routesOf t)))))
           ≡ true
       go true e = route-with t (putRoute j (r .addr) (r .«valid_until») (routesOf t)) (put-route-stands i j via (r .addr) (r .«valid_until») (routesOf t) h)
@@ -282,7 +283,7 @@ module _ (v : ℕ) (via : Ipv6Addr) where
   options-apart now (o ∷ os) s = options-apart now os (processPrefix now s o) ∙ prefix-apart v via now s o
 
   learned-stays : (s : Slaac) (source : Ipv6Addr) (msg : List ℕ) (now : Instant) → All stays (routersOf s)
-      → RouterSpares v via now source (secondsOf (routerAdvertAt msg .«router_lifetime»)) → All stays (routersOf (learned s source msg now))
+      → RouterSpares v via now source (secondsOf (routerAdvertAt msg .«router_lifetime»)) → All stays (routersOf (steps2to4 s source msg now))
   unfolding step2
   learned-stays s source msg now l h =
       process-router v via now (step2 now s (optionsIn msg)) source (secondsOf (routerAdvertAt msg .«router_lifetime»))
@@ -290,7 +291,7 @@ module _ (v : ℕ) (via : Ipv6Addr) where
 
   stays-advert : (x : Check) (s : Slaac) (c : NeighborCache) (i : ℕ) (source : Ipv6Addr) (msg : List ℕ) (now : Instant)
       → RouterSpares v via now source (secondsOf (routerAdvertAt msg .«router_lifetime»)) → All stays (routersOf s)
-      → All stays (routersOf (advertBy x s c i source msg now .slaac))
+      → All stays (routersOf (messageBy x s c i source msg now .slaac))
   stays-advert (Fails why) s c i source msg now h l = l
   stays-advert Fine s c i source msg now h l = learned-stays s source msg now l h
 
@@ -301,7 +302,7 @@ module _ (v : ℕ) (via : Ipv6Addr) where
   stays-call Fine s c i source msg now h l = go (s .on)
     where
       go : (b : Bool)
-          → All stays (routersOf (cond {A = Advertised} b (advertBy (messageCheck source msg) s c i source msg now) (record { slaac = s; cache = c; answer = Off }) .slaac))
+          → All stays (routersOf (cond {A = Advertised} b (messageBy (messageCheck source msg) s c i source msg now) (record { slaac = s; cache = c; answer = Off }) .slaac))
       go true = stays-advert (messageCheck source msg) s c i source msg now h l
       go false = l
 
@@ -337,7 +338,7 @@ module _ (v : ℕ) (via : Ipv6Addr) where
       go true = stays-sync (withDiscovery s (u .discovery)) t r i hw (k .now) (u .clock) (u .answer) l
       go false = l
 
-  stays-restart : (x : Check) (s : Slaac) → All stays (routersOf s) → All stays (routersOf (changeBy x s (restartedOf s) .slaac))
+  stays-restart : (x : Check) (s : Slaac) → All stays (routersOf s) → All stays (routersOf (turnBy x s (restartedOf s) .slaac))
   stays-restart (Fails why) s l = l
   stays-restart Fine s l = go (s .on)
     where
@@ -345,7 +346,7 @@ module _ (v : ℕ) (via : Ipv6Addr) where
       go true = l
       go false = l
 
-  stays-on : (x : Check) (s : Slaac) → All stays (routersOf s) → All stays (routersOf (changeBy x s (turnedOn s) .slaac))
+  stays-on : (x : Check) (s : Slaac) → All stays (routersOf s) → All stays (routersOf (turnBy x s (turnedOn s) .slaac))
   stays-on (Fails why) s l = l
   stays-on Fine s l = go (s .on)
     where
@@ -365,25 +366,25 @@ module _ (v : ℕ) (via : Ipv6Addr) where
   held-step {i} (advertised x c' source msg now r p) h g =
       record {
         there = g .there;
-        long = subst (λ (q : Advertised). All stays (routersOf (q .slaac))) (sym (p .is)) (stays-call (callCheck now i) (x .slaac) c' i source msg now h (g .long));
+        long = subst (λ (q : Advertised). All stays (routersOf (q .slaac))) (sym (p .is)) (stays-call (timeCheck now i) (x .slaac) c' i source msg now h (g .long));
       }
   held-step {i} {hw} (polled x up buf buf' k k' r p) h g =
       record {
         there =
             subst (λ (q : Polled). routeStands i via (routesOf (q .routes)) ≡ true) (sym (p .is))
-            (route-poll i via (callCheck (k .now) i) (x .slaac) (x .addrs) (x .routes) i up hw buf k (others i (k .now) h (routersOf (x .slaac)) (g .long)) (g .there));
+            (route-poll i via (timeCheck (k .now) i) (x .slaac) (x .addrs) (x .routes) i up hw buf k (others i (k .now) h (routersOf (x .slaac)) (g .long)) (g .there));
         long =
             subst (λ (q : Polled). All stays (routersOf (q .slaac))) (sym (p .is))
-            (stays-poll (callCheck (k .now) i) (x .slaac) (x .addrs) (x .routes) i up hw buf k (g .long));
+            (stays-poll (timeCheck (k .now) i) (x .slaac) (x .addrs) (x .routes) i up hw buf k (g .long));
       }
   held-step {i} {hw} (polled-at x up buf buf' k r p) h g =
       record {
         there =
             subst (λ (q : PolledAt). routeStands i via (routesOf (q .polled .routes)) ≡ true) (sym (p .is))
-            (route-poll i via (callCheck (k .now) i) (x .slaac) (x .addrs) (x .routes) i up hw buf k (others i (k .now) h (routersOf (x .slaac)) (g .long)) (g .there));
+            (route-poll i via (timeCheck (k .now) i) (x .slaac) (x .addrs) (x .routes) i up hw buf k (others i (k .now) h (routersOf (x .slaac)) (g .long)) (g .there));
         long =
             subst (λ (q : PolledAt). All stays (routersOf (q .polled .slaac))) (sym (p .is))
-            (stays-poll (callCheck (k .now) i) (x .slaac) (x .addrs) (x .routes) i up hw buf k (g .long));
+            (stays-poll (timeCheck (k .now) i) (x .slaac) (x .addrs) (x .routes) i up hw buf k (g .long));
       }
   held-step {i} (restarted x r p) h g =
       record { there = g .there; long = subst (λ (q : Changed). All stays (routersOf (q .slaac))) (sym (p .is)) (stays-restart (ifaceCheck i) (x .slaac) (g .long)) }
@@ -402,7 +403,7 @@ module _ (v : ℕ) (via : Ipv6Addr) where
       record {
         there =
             subst (λ (q : PolledAt). routeStands i via (routesOf (q .polled .routes)) ≡ true) (sym (p .is))
-            (route-poll i via (callCheck (k .now) j) s t (x .routes) j up hw' buf k (all-of (Other i via j (k .now)) (λ r' e same by. n same) (routersOf s)) (g .there));
+            (route-poll i via (timeCheck (k .now) j) s t (x .routes) j up hw' buf k (all-of (Other i via j (k .now)) (λ r' e same by. n same) (routersOf s)) (g .there));
         long = g .long;
       }
   held-step {i} (off-elsewhere x j s t n q r d p) h g =
@@ -416,7 +417,7 @@ module _ (v : ℕ) (via : Ipv6Addr) where
       record {
         there =
             subst (λ (q : Polled). routeStands i via (routesOf (q .routes)) ≡ true) (sym (p .is))
-            (route-poll i via (callCheck (k .now) j) s t (x .routes) j up hw' buf k (all-of (Other i via j (k .now)) (λ r' e same by. n same) (routersOf s)) (g .there));
+            (route-poll i via (timeCheck (k .now) j) s t (x .routes) j up hw' buf k (all-of (Other i via j (k .now)) (λ r' e same by. n same) (routersOf s)) (g .there));
         long = g .long;
       }
 

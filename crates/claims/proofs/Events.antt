@@ -11,7 +11,7 @@ use Rattle.claims.proofs.Walk.{keep, walk}
 use Rattle.claims.specs.Calls.{at}
 use Rattle.neighbor.specs.NeighborRules.{Table}
 use Rattle.neighbor.specs.declared.Entry.{Entry}
-use Rattle.sweep.specs.SweepRules.{due, spent, probed, nothing as no-probe, happens, probe, Events, andThen, eventsFrom}
+use Rattle.sweep.specs.SweepRules.{due, spent, probed, nothing as no-probe, happens, probe, TableEvents as Events, andThen, eventsFrom}
 use Rattle.sweep.specs.declared.ProbeEvent.the-variants.{Retransmit, Failed}
 use Rattle.sweep.specs.declared.ProbeEvent.{ProbeEvent}
 use Rattle.table.specs.Table.{firstFrom, swapRemove, lastFirst}

@@ -4,15 +4,15 @@ use Rattle.claims.specs.Calls.{check}
 use Rattle.claims.specs.Examples.{Examples}
 use Rattle.iface.specs.AddressRules.{putAddr, dropAddr, firstLocal}
 use Rattle.iface.specs.RouteRules.{putRoute, dropRoute}
-use Rattle.learned.specs.DiscoveryRules.{due as turnDue, sent, solicitation}
-use Rattle.learned.specs.ExpiryRules.{syncDue, leaveExpired}
-use Rattle.learned.specs.LearnedRules.{addPrefix, expirePrefix, processPrefix, addRouter, expireRouter, processRouter}
+use Rattle.slaac.specs.DiscoveryRules.{due as turnDue, sent, solicitation}
+use Rattle.slaac.specs.ExpiryRules.{syncDue, leaveExpired}
+use Rattle.slaac.specs.LearnedRules.{addPrefix, expirePrefix, processPrefix, addRouter, expireRouter, processRouter}
 use Rattle.ndisc.specs.OptionWalk.{walked, optionsOf}
 use Rattle.ndisc.specs.Rfc4443Checksum.{checksumOf}
 use Rattle.neighbor.specs.NeighborRules.{sameKey, find, before, insertState, onIface}
-use Rattle.slaac.specs.PollRules.{turnOf, bufferOf, syncTurn, pollOn}
-use Rattle.slaac.specs.SlaacRules.{step2, lastSource}
-use Rattle.slaac.specs.SyncRules.{syncPrefix, syncRouter, syncAddrs, syncRoutes}
+use Rattle.autoconf.specs.PollRules.{turnOf, bufferOf, syncTurn, pollOn}
+use Rattle.autoconf.specs.AdvertRules.{step2, lastSource}
+use Rattle.autoconf.specs.SyncRules.{syncPrefix, syncRouter, syncAddrs, syncRoutes}
 use Rattle.sweep.specs.SweepRules.{expireAll, due, spent, probe, eventsFrom, sweepTable}
 use Rattle.wire.specs.Rfc2464.{formedOf}
 

@@ -12,6 +12,8 @@ use native.Mathlib.Omega.{arith}
 use Rattle.claims.proofs.Base.{swap-one}
 use Rattle.claims.proofs.Events.{events-one}
 use Rattle.claims.specs.Places.{DueNow, NoneLeft, UntilNone, over, more, Places}
+use Rattle.neighbor.proofs.Scans.{first-of-law, lookup-law, get-law, remove-law}
+use Rattle.pending.proofs.Scans.{release-law, orphan-law}
 use Rattle.neighbor.proofs.Eviction.{eviction-law, find-law}
 use Rattle.neighbor.proofs.Keys.{and-true}
 use Rattle.neighbor.specs.CacheCalls.{blank}
@@ -144,6 +146,12 @@ places = record {
   evicted = eviction-law;
   key = find-law;
   first = first-from-law;
+  first-of = first-of-law;
+  lookup = lookup-law;
+  get = get-law;
+  remove = remove-law;
+  release = release-law;
+  orphans = orphan-law;
   due-means = λ i now e. (is-due i now e, due-is i now e);
   spent-means = λ e. (is-spent e, spent-is e);
   fails = fails;

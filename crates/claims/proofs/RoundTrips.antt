@@ -17,6 +17,7 @@ use Rattle.ndisc.specs.declared.ndiscoption.Checked.the-variants.{Well}
 use Rattle.ndisc.specs.declared.ndiscoption.NdiscOption.the-variants.{SourceLinkLayerAddr}
 use Rattle.text.proofs.HexLaws.{read-back}
 use Rattle.text.proofs.RoundTrip.{number-reads-back, address-reads-back, hardware-reads-back, message-reads-back, join, clear-decimal, clear-hexed}
+use Rattle.wire.proofs.Formed.{formed-back}
 use Rattle.wire.proofs.RoundTrip.{round-trips as addresses}
 use Rattle.wire.specs.declared.ethernet.HardwareAddress.{HardwareAddress}
 use Rattle.wire.specs.declared.ipv6.Ipv6Addr.{Ipv6Addr}
@@ -40,6 +41,7 @@ pub round-trips : RoundTrips
 round-trips =
     record {
       addresses = addresses;
+      formed = formed-back;
       source = λ a msg at msg'. source-written msg at msg' a;
       target = λ a msg at msg'. target-written msg at msg' a;
       prefix = λ p msg at msg'. prefix-written msg at msg' p;

@@ -14,14 +14,14 @@ use Rattle.iface.specs.RouteRules.{isSlaac, isRoute, isInstalled, isLearned, ex
 use Rattle.iface.specs.declared.addr.IfaceAddr.{IfaceAddr}
 use Rattle.iface.specs.declared.addr.Preferred.{Preferred}
 use Rattle.iface.specs.declared.route.Route.{Route}
-use Rattle.learned.specs.ExpiryRules.{isValid, prefixGone, routerGone, leaveExpired}
-use Rattle.learned.specs.LearnedRules.{prefixesOf, routersOf, ifRoom, isSkipped, isPrefix, cidrOf, infinite, untilOf, prefixOf, putOver, addPrefix, prefixEnds, expirePrefix, processPrefix, isRouter, addRouter, routerEnds, expireRouter, processRouter}
-use Rattle.learned.specs.declared.Prefix.{Prefix}
-use Rattle.learned.specs.declared.Router.{Router}
-use Rattle.learned.specs.declared.Slaac.{Slaac}
+use Rattle.slaac.specs.ExpiryRules.{prefixGone, routerGone, leaveExpired}
+use Rattle.slaac.specs.LearnedRules.{prefixesOf, routersOf, isSkipped, isPrefix, cidrOf, infinite, untilOf, prefixOf, putOver, addPrefix, prefixEnds, expirePrefix, processPrefix, isRouter, addRouter, routerEnds, expireRouter, processRouter}
+use Rattle.table.specs.Table.{ifRoom, filled, kept, atFirst, anyOf}
+use Rattle.slaac.specs.declared.Prefix.{Prefix}
+use Rattle.slaac.specs.declared.Router.{Router}
+use Rattle.slaac.specs.declared.Slaac.{Slaac}
 use Rattle.ndisc.specs.declared.ndiscoption.PrefixInformation.{PrefixInformation}
 use Rattle.neighbor.proofs.Keys.{and-true}
-use Rattle.table.specs.Table.{filled, kept, atFirst, anyOf}
 use Rattle.time.specs.ClockRules.{isAfter}
 use Rattle.time.specs.TimeRules.{addOf, secondsOf}
 use Rattle.time.specs.declared.Duration.{Duration}
@@ -329,7 +329,7 @@ expired-other v hw a c now p early lasts f e = go (sameCidr c a) refl
 
 -- an expired router is another
 pub expired-router : (v : ℕ) (via : Ipv6Addr) (now : Instant) (r : Router) → now .0 < v → RouterLastsTo v via r
-    → isValid now (r .«valid_until») ≡ false → r .addr ≡ via → ⊥
+    → isAfter (At (r .«valid_until»)) now ≡ false → r .addr ≡ via → ⊥
 expired-router v via now r early lasts e same =
     let long : v ≤ r .«valid_until» .0 = lasts (rw same (sameAddr-refl via)) in
     omega (arith, ltb-false (now .0) (r .«valid_until» .0) e)

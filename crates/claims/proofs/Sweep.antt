@@ -14,7 +14,7 @@ use Rattle.claims.specs.Watch.{later, reportsOf, dueAt, filled, gone, wa
 use Rattle.neighbor.specs.NeighborRules.{Table, Key, isKey, entriesOf}
 use Rattle.neighbor.specs.declared.State.the-variants.{Started, Incomplete, Reachable, Stale}
 use Rattle.neighbor.specs.declared.State.{State}
-use Rattle.sweep.specs.SweepRules.{expireState, expire, expireAll, dueState, spentState, probedState, Events, sweepTable}
+use Rattle.sweep.specs.SweepRules.{expireState, expire, expireAll, dueState, spentState, probedState, TableEvents as Events, sweepTable}
 use Rattle.time.specs.declared.Instant.{Instant}
 use Rattle.wire.specs.declared.ethernet.HardwareAddress.{HardwareAddress}
 

@@ -14,7 +14,7 @@ use Rattle.neighbor.specs.CacheCalls.{key}
 use Rattle.neighbor.specs.NeighborRules.{Table, Key, sameKey, keyOf, isKey, onIface, entriesOf}
 use Rattle.neighbor.specs.declared.Entry.{Entry}
 use Rattle.neighbor.specs.declared.State.{State}
-use Rattle.sweep.specs.SweepRules.{dueState, due, spentState, spent, probedState, probed, Events, andThen}
+use Rattle.sweep.specs.SweepRules.{dueState, due, spentState, spent, probedState, probed, TableEvents as Events, andThen}
 use Rattle.sweep.specs.declared.ProbeEvent.the-variants.{Retransmit, Failed}
 use Rattle.table.specs.Table.{lastFirst}
 use Rattle.time.specs.declared.Instant.{Instant}

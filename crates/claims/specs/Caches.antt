@@ -13,28 +13,28 @@ use Rattle.neighbor.specs.declared.Answer.{Answer as Found}
 use Rattle.neighbor.specs.declared.Answer.the-variants.{Refused as Denied, Found as Known, Pending, NotFound}
 use Rattle.neighbor.specs.declared.Got.{Got}
 use Rattle.neighbor.specs.declared.Got.the-variants.{Refused as Rejected, Nothing, Is}
-use Rattle.neighbor.specs.declared.Outcome.{Outcome}
-use Rattle.neighbor.specs.declared.Outcome.the-variants.{Refused, Done}
+use Rattle.wire.specs.declared.error.Outcome.{Outcome}
+use Rattle.wire.specs.declared.error.Outcome.the-variants.{Refused, Done}
 use Rattle.neighbor.specs.declared.Changed.{Changed}
 use Rattle.neighbor.specs.declared.Removed.{Removed}
 use Rattle.neighbor.specs.NeighborRules.{Key}
 use Rattle.neighbor.specs.Distinct.{Distinct}
-use Rattle.neighbor.specs.CacheCalls.{key, empty, entries, ifaceCheck, LookedUp, GotBy, atIndex, RemovedTo, startTo, insertTo, fillTo, clearTo}
+use Rattle.neighbor.specs.CacheCalls.{key, empty, entries, LookedUp, GotBy, atIndex, RemovedTo, startTo, insertTo, fillTo, clearTo}
+use Rattle.wire.specs.Refusals.{ifaceCheck, timeCheck}
 use Rattle.wire.specs.declared.error.Check.{Check}
 use Rattle.wire.specs.declared.error.Check.the-variants.{Fine, Refused as Fails}
 use Rattle.wire.specs.Rfc2464.{isUnicastHardware}
-use Rattle.learned.specs.declared.Slaac.{Slaac}
-use Rattle.slaac.specs.declared.LinkLayerAddr.{LinkLayerAddr}
-use Rattle.slaac.specs.declared.LinkLayerAddr.the-variants.{Nothing as NoAddr, Is as IsAddr}
+use Rattle.slaac.specs.declared.Slaac.{Slaac}
+use Rattle.autoconf.specs.declared.LinkLayerAddr.{LinkLayerAddr}
+use Rattle.autoconf.specs.declared.LinkLayerAddr.the-variants.{Nothing as NoAddr, Is as IsAddr}
 use Rattle.pending.specs.declared.PendingQueue.{PendingQueue}
 use Rattle.iface.specs.declared.addr.IfaceAddrs.{IfaceAddrs}
 use Rattle.iface.specs.declared.route.Routes.{Routes}
 use Rattle.iface.specs.AddressRules.{clearAddrs}
-use Rattle.slaac.specs.declared.Advertised.{Advertised}
-use Rattle.slaac.specs.declared.TurnedOff.{TurnedOff}
-use Rattle.slaac.specs.Answers.{callCheck}
-use Rattle.slaac.specs.OffRules.{TurnedOffTo}
-use Rattle.slaac.specs.SlaacRules.{messageCheck, optionsIn, lastSource, AdvertisedTo}
+use Rattle.autoconf.specs.declared.Advertised.{Advertised}
+use Rattle.autoconf.specs.declared.TurnedOff.{TurnedOff}
+use Rattle.autoconf.specs.OffRules.{TurnedOffTo}
+use Rattle.autoconf.specs.AdvertRules.{messageCheck, optionsIn, lastSource, AdvertisedTo}
 use Rattle.sweep.specs.declared.ProbeEvent.{ProbeEvent}
 use Rattle.sweep.specs.declared.EventSlot.{EventSlot}
 use Rattle.sweep.specs.declared.Events.{Events}
@@ -85,7 +85,7 @@ heardBy (Fails why) on message l = silence
 heardBy Fine on message l = cond on (heardMessage message l) silence
 
 abbrev pub heardIn : Slaac → ℕ → Ipv6Addr → List ℕ → Instant → Heard
-heardIn s i source msg now = heardBy (callCheck now i) (s .on) (messageCheck source msg) (lastSource (optionsIn msg))
+heardIn s i source msg now = heardBy (timeCheck now i) (s .on) (messageCheck source msg) (lastSource (optionsIn msg))
 
 -- whether an address went when SLAAC was turned off: none if that is refused, or it was off
 abbrev pub wentBy : Check → Bool → Bool → Bool

@@ -1,4 +1,4 @@
--- The public calls that are given the neighbour cache: what each does to its entries, what it answers, and runs of calls. Assumes nothing.
+-- The public calls that return the neighbour cache: what each does to its entries, what it answers, and runs of calls. Assumes nothing.
 -- A call that is not given the cache cannot change it: states are values.
 use Prim.Native.Nat.{ℕ}
 use mathlib.Core.Bool.{Bool, true, false, cond}
@@ -7,20 +7,19 @@ use lib.ListN.{length, getD}
 use lib.Dec.{ltb}
 use Rattle.table.specs.Table.{firstOf}
 use Rattle.time.specs.declared.Instant.{Instant}
-use Rattle.time.specs.TimeRules.{addOf}
 use Rattle.wire.specs.declared.ethernet.HardwareAddress.{HardwareAddress}
 use Rattle.wire.specs.declared.error.Refusal.{Refusal}
 use Rattle.wire.specs.declared.error.Check.{Check}
 use Rattle.wire.specs.declared.error.Check.the-variants.{Fine, Refused as Fails}
-use Rattle.wire.specs.Refusals.{firstRefusal, tooLate, noSuchIface}
+use Rattle.wire.specs.Refusals.{firstRefusal, tooLate, noSuchIface, ifaceCheck, keyCheck, fillCheck}
 use Rattle.neighbor.specs.declared.State.{State}
 use Rattle.neighbor.specs.declared.State.the-variants.{Started, Reachable}
 use Rattle.neighbor.specs.declared.Answer.{Answer as Found}
 use Rattle.neighbor.specs.declared.Answer.the-variants.{NotFound}
 use Rattle.neighbor.specs.declared.Got.{Got}
 use Rattle.neighbor.specs.declared.Got.the-variants.{Nothing}
-use Rattle.neighbor.specs.NeighborRules.{Table, Key, isKey, find, insertState, removeKey, clearIface}
-use Rattle.neighbor.specs.CacheCalls.{keyCheck, fillCheck, ifaceCheck, answerIn, shown, blank}
+use Rattle.neighbor.specs.NeighborRules.{Table, Key, lasting, isKey, find, insertState, removeKey, clearIface}
+use Rattle.neighbor.specs.CacheCalls.{answerIn, shown, blank}
 use Rattle.sweep.specs.declared.ProbeEvent.{ProbeEvent}
 use Rattle.sweep.specs.SweepRules.{sweepTable}
 
@@ -69,7 +68,7 @@ pub data Effect : Type 0 where
 
 -- "Fill puts Reachable for 60,000 ms"
 abbrev pub reachable : HardwareAddress → Instant → State
-reachable h now = Reachable h (addOf now (record { 0 = 60000 }))
+reachable h now = lasting h now
 
 -- what a call does if it is taken
 abbrev pub meant : Call → Effect

@@ -9,6 +9,8 @@ use Rattle.claims.specs.Examples.{Examples}
 use Rattle.claims.specs.Lasting.{Lasting}
 use Rattle.claims.specs.Endless.{Endless}
 use Rattle.claims.specs.RoundTrips.{RoundTrips}
+use Rattle.claims.specs.Order.{Order}
+use Rattle.autoconf.specs.Distinct.{AddressesOnce}
 
 pub record Claims : Type 1 where
   -- Traffic for other addresses cannot hold a resolution back, short of evicting it: demand 3, sentence by sentence, over any calls.
@@ -17,8 +19,10 @@ pub record Claims : Type 1 where
   pub traces : Traces
   -- What is said there of lists of entries holds of the caches that the code's calls make, and no cache holds a key twice.
   pub on-caches : OnCaches
-  -- The scans of the cache find the places that document 01 names.
+  -- The scans of the cache and the queue find the places that document 01 names.
   pub places : Places
+  -- No address stands twice in the tables that the calls make, and so the sync's entry of an address is document 01's SLAAC entry.
+  pub addresses-once : AddressesOnce
   -- Sweeps and polls bring the clock's deadline forward or leave it, and leave now alone.
   pub clocks : Clocks
   -- No address and no default route leaves the table before its time.
@@ -31,3 +35,5 @@ pub record Claims : Type 1 where
   pub examples : Examples
   -- What is written or printed reads back as it was, and nothing beside it changes.
   pub round-trips : RoundTrips
+  -- Every call tests in the order of document 01's table, so that of several reasons to refuse it answers the topmost.
+  pub order : Order

@@ -13,10 +13,10 @@ use Rattle.lent.specs.LentRules.{ReportedTo, PolledBy}
 use Rattle.wire.specs.declared.ethernet.HardwareAddress.{HardwareAddress}
 use Rattle.iface.specs.declared.addr.IfaceAddrs.{IfaceAddrs}
 use Rattle.iface.specs.declared.route.Routes.{Routes}
-use Rattle.learned.specs.declared.Slaac.{Slaac}
-use Rattle.slaac.specs.declared.Polled.{Polled}
-use Rattle.slaac.specs.declared.PolledAt.{PolledAt}
-use Rattle.slaac.specs.PollRules.{PolledTo}
+use Rattle.slaac.specs.declared.Slaac.{Slaac}
+use Rattle.autoconf.specs.declared.Polled.{Polled}
+use Rattle.autoconf.specs.declared.PolledAt.{PolledAt}
+use Rattle.autoconf.specs.PollRules.{PolledTo}
 
 pub record Clocks : Type 0 where
   -- a sweep, refused ones too, with the clock by value and with the clock lent

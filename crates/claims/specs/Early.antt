@@ -28,19 +28,19 @@ use Rattle.iface.specs.declared.route.Routes.{Routes}
 use Rattle.iface.specs.declared.route.AddedRoute.{AddedRoute}
 use Rattle.iface.specs.AddressRules.{addrsOf, isAddr, isFromSlaac, AddedTo}
 use Rattle.iface.specs.RouteRules.{routesOf, isInstalled, AddedRouteTo}
-use Rattle.learned.specs.declared.Prefix.{Prefix}
-use Rattle.learned.specs.declared.Router.{Router}
-use Rattle.learned.specs.declared.Slaac.{Slaac}
-use Rattle.learned.specs.declared.Changed.{Changed}
-use Rattle.learned.specs.LearnedRules.{prefixesOf, routersOf, isSkipped, cidrOf, prefixOf}
-use Rattle.learned.specs.DiscoveryRules.{RestartedTo, TurnedOnTo}
-use Rattle.slaac.specs.declared.Advertised.{Advertised}
-use Rattle.slaac.specs.declared.Polled.{Polled}
-use Rattle.slaac.specs.declared.PolledAt.{PolledAt}
-use Rattle.slaac.specs.declared.TurnedOff.{TurnedOff}
-use Rattle.slaac.specs.SlaacRules.{optionsIn, prefixOptions, AdvertisedTo}
-use Rattle.slaac.specs.PollRules.{PolledTo}
-use Rattle.slaac.specs.OffRules.{TurnedOffTo}
+use Rattle.slaac.specs.declared.Prefix.{Prefix}
+use Rattle.slaac.specs.declared.Router.{Router}
+use Rattle.slaac.specs.declared.Slaac.{Slaac}
+use Rattle.slaac.specs.declared.Changed.{Changed}
+use Rattle.slaac.specs.LearnedRules.{prefixesOf, routersOf, isSkipped, cidrOf, prefixOf}
+use Rattle.slaac.specs.DiscoveryRules.{RestartedTo, TurnedOnTo}
+use Rattle.autoconf.specs.declared.Advertised.{Advertised}
+use Rattle.autoconf.specs.declared.Polled.{Polled}
+use Rattle.autoconf.specs.declared.PolledAt.{PolledAt}
+use Rattle.autoconf.specs.declared.TurnedOff.{TurnedOff}
+use Rattle.autoconf.specs.AdvertRules.{optionsIn, prefixOptions, AdvertisedTo}
+use Rattle.autoconf.specs.PollRules.{PolledTo}
+use Rattle.autoconf.specs.OffRules.{TurnedOffTo}
 use Rattle.lent.specs.LentRules.{PolledBy}
 
 -- each entry is so

@@ -15,12 +15,12 @@ use Rattle.iface.specs.declared.addr.IfaceAddrs.{IfaceAddrs}
 use Rattle.iface.specs.declared.addr.Preferred.the-variants.{Until}
 use Rattle.iface.specs.AddressRules.{addrsOf, emptyAddrs, slaacAddr}
 use Rattle.iface.specs.RouteRules.{emptyRoutes}
-use Rattle.learned.specs.declared.Slaac.{Slaac}
-use Rattle.learned.specs.LearnedRules.{prefixesOf, isSkipped, infinite, prefixOf}
-use Rattle.learned.specs.DiscoveryRules.{fresh}
-use Rattle.slaac.specs.declared.PolledAt.{PolledAt}
-use Rattle.slaac.specs.Answers.{callCheck}
-use Rattle.slaac.specs.PollRules.{pollBy}
+use Rattle.slaac.specs.declared.Slaac.{Slaac}
+use Rattle.slaac.specs.LearnedRules.{prefixesOf, isSkipped, infinite, prefixOf}
+use Rattle.slaac.specs.DiscoveryRules.{fresh}
+use Rattle.autoconf.specs.declared.PolledAt.{PolledAt}
+use Rattle.wire.specs.Refusals.{timeCheck}
+use Rattle.autoconf.specs.PollRules.{pollBy}
 use Rattle.claims.specs.Traces.{ms}
 use Rattle.claims.specs.Examples.{mac, network, formed, offer, entry, hears}
 
@@ -30,7 +30,7 @@ offered s o now = hears s ((0x86 ∷ replicate 15 0) ++ prefixBytes o) now .slaa
 
 -- a poll there, with a clock that nobody waits on
 abbrev pub polledAt : Slaac → IfaceAddrs → ℕ → PolledAt
-polledAt s t now = pollBy (callCheck (ms now) 0) s t emptyRoutes 0 true mac [] (idle (ms now))
+polledAt s t now = pollBy (timeCheck (ms now) 0) s t emptyRoutes 0 true mac [] (idle (ms now))
 
 -- all ones for both lifetimes, and a poll; and one at 2^62, the last time that is not refused
 abbrev pub first : PolledAt

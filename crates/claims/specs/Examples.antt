@@ -18,17 +18,18 @@ use Rattle.iface.specs.declared.addr.Preferred.the-variants.{Until}
 use Rattle.iface.specs.declared.route.Routes.{Routes}
 use Rattle.iface.specs.AddressRules.{addrsOf, withAddrs, emptyAddrs, manualAddr, slaacAddr}
 use Rattle.iface.specs.RouteRules.{routesOf, emptyRoutes, slaacRoute}
-use Rattle.learned.specs.declared.Prefix.{Prefix}
-use Rattle.learned.specs.declared.Slaac.{Slaac}
-use Rattle.learned.specs.LearnedRules.{prefixesOf, routersOf}
-use Rattle.learned.specs.DiscoveryRules.{fresh}
-use Rattle.slaac.specs.declared.Advertised.{Advertised}
-use Rattle.slaac.specs.declared.AdvertAnswer.the-variants.{Done}
-use Rattle.slaac.specs.declared.Polled.{Polled}
-use Rattle.slaac.specs.declared.PollAnswer.the-variants.{Solicited}
-use Rattle.slaac.specs.Answers.{advertNumber, callCheck}
-use Rattle.slaac.specs.SlaacRules.{callBy}
-use Rattle.slaac.specs.PollRules.{pollBy, pollBuffer}
+use Rattle.slaac.specs.declared.Prefix.{Prefix}
+use Rattle.slaac.specs.declared.Slaac.{Slaac}
+use Rattle.slaac.specs.LearnedRules.{prefixesOf, routersOf}
+use Rattle.slaac.specs.DiscoveryRules.{fresh}
+use Rattle.autoconf.specs.declared.Advertised.{Advertised}
+use Rattle.autoconf.specs.declared.AdvertAnswer.the-variants.{Done}
+use Rattle.autoconf.specs.declared.Polled.{Polled}
+use Rattle.autoconf.specs.declared.PollAnswer.the-variants.{Solicited}
+use Rattle.autoconf.specs.Answers.{advertNumber}
+use Rattle.wire.specs.Refusals.{timeCheck}
+use Rattle.autoconf.specs.AdvertRules.{callBy}
+use Rattle.autoconf.specs.PollRules.{pollBy, pollBuffer}
 use Rattle.sweep.specs.declared.ProbeEvent.the-variants.{Retransmit, Failed}
 use Rattle.claims.specs.Calls.{Call, start, sweep, done, swept, answers}
 use Rattle.claims.specs.Traces.{ms, neighbour}
@@ -83,13 +84,13 @@ ofLength n = record { address = network .address; «prefix_len» = n }
 
 -- what the calls leave, on interface 0: an advertisement, and a poll with a buffer of 16 bytes and the link up
 abbrev pub hears : Slaac → List ℕ → ℕ → Advertised
-hears s msg now = callBy (callCheck (ms now) 0) s empty 0 router msg (ms now)
+hears s msg now = callBy (timeCheck (ms now) 0) s empty 0 router msg (ms now)
 
 abbrev pub polls : Slaac → IfaceAddrs → Routes → ℕ → Polled
-polls s t r now = pollBy (callCheck (ms now) 0) s t r 0 true mac (replicate 16 0) (idle (ms now)) .polled
+polls s t r now = pollBy (timeCheck (ms now) 0) s t r 0 true mac (replicate 16 0) (idle (ms now)) .polled
 
 abbrev pub sends : Slaac → IfaceAddrs → ℕ → List ℕ
-sends s t now = pollBuffer (callCheck (ms now) 0) s t true mac (replicate 16 0) (idle (ms now))
+sends s t now = pollBuffer (timeCheck (ms now) 0) s t true mac (replicate 16 0) (idle (ms now))
 
 -- an advertisement to an interface that has learned nothing
 abbrev pub answerTo : List ℕ → Advertised

@@ -5,8 +5,8 @@ use mathlib.Core.Bool.{true, false}
 use Rattle.time.specs.declared.Expiry.the-variants.{At}
 use Rattle.iface.specs.AddressRules.{addrsOf}
 use Rattle.iface.specs.RouteRules.{routesOf}
-use Rattle.learned.specs.LearnedRules.{prefixesOf, routersOf}
-use Rattle.slaac.specs.declared.Polled.{Polled}
+use Rattle.slaac.specs.LearnedRules.{prefixesOf, routersOf}
+use Rattle.autoconf.specs.declared.Polled.{Polled}
 use Rattle.claims.specs.Traces.{ms}
 use Rattle.claims.specs.Early.{All, stands, LastsTo, routeStands, RouterLastsTo}
 use Rattle.claims.specs.Examples.{mac, router, formed, polls, end}

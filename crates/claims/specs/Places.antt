@@ -1,4 +1,4 @@
--- Document 01's words for a place in the cache, "the first kind present", "the first entry there or later that ..", of the scans that
+-- Document 01's words for a place in the cache or the queue, "the first kind present", "the first entry there or later that ..", of the scans that
 -- compute it. Assumes nothing.
 use Prim.Native.Nat.{ℕ, suc, _≤_}
 use mathlib.Core.Path.{_≡_}
@@ -13,6 +13,8 @@ use Rattle.neighbor.specs.declared.Entry.{Entry}
 use Rattle.neighbor.specs.NeighborRules.{Table}
 use Rattle.neighbor.specs.CacheCalls.{blank}
 use Rattle.neighbor.specs.Eviction.{EvictionLaw, FindLaw}
+use Rattle.neighbor.specs.Scans.{FirstOfLaw, LookupLaw, GetLaw, RemoveLaw}
+use Rattle.pending.specs.QueueScans.{ReleaseLaw, OrphanLaw}
 use Rattle.sweep.specs.declared.ProbeEvent.{ProbeEvent}
 use Rattle.sweep.specs.declared.ProbeEvent.the-variants.{Retransmit, Failed}
 use Rattle.sweep.specs.SweepRules.{due, spent, probed, nothing, happens, probe, expireAll, sweepTable}
@@ -45,6 +47,17 @@ pub record Places : Type 1 where
   pub key : FindLaw
   -- "the first entry there or later that .."
   pub first : FirstFromLaw
+  pub first-of : FirstOfLaw
+  -- "Lookup: Reachable is Found, even past its time; Started and Incomplete are Pending; the rest NotFound."
+  pub lookup : LookupLaw
+  -- "removing or listing an absent key answers Nothing"
+  pub get : GetLaw
+  -- "Remove moves the last entry in"
+  pub remove : RemoveLaw
+  -- "Release takes the oldest of its key."
+  pub release : ReleaseLaw
+  -- "Purging orphans drops packets whose entry is absent or Stale"
+  pub orphans : OrphanLaw
   -- ".. is Incomplete, of the interface and due": the test says so, and only then
   pub due-means : (i : ℕ) (now : Instant) (e : Entry) → (due i now e ≡ true → DueNow i now e) × (DueNow i now e → due i now e ≡ true)
   pub spent-means : (e : Entry) → (spent e ≡ true → NoneLeft e) × (NoneLeft e → spent e ≡ true)

@@ -4,7 +4,7 @@ use mathlib.Core.Path.{_≡_}
 use mathlib.Core.Bool.{true}
 use mathlib.Core.List.{List, _∷_, _++_}
 use lib.ListN.{length, take, drop}
-use Rattle.wire.specs.RoundTrips.{Bytes, RoundTrips as Addresses}
+use Rattle.wire.specs.RoundTrips.{Bytes, RoundTrips as Addresses, FormedBack}
 use Rattle.wire.specs.Rfc2464.{hardwareBytes}
 use Rattle.wire.specs.Rfc4291.{addressBytes, allRouters}
 use Rattle.wire.specs.declared.ethernet.HardwareAddress.{HardwareAddress}
@@ -40,6 +40,8 @@ NoSpace s = indexOf 32 s ≡ length s
 pub record RoundTrips : Type 0 where
   -- addresses are numbers in tables and bytes at the border, and the two directions undo each other
   pub addresses : Addresses
+  -- an address that a prefix forms is formed from that hardware address, and from no other
+  pub formed : FormedBack
   -- "A read of it returns the values written."
   pub source : (a : HardwareAddress) → ReadBack (linkLayerBytes 1 a) (SourceLinkLayerAddr a) 1
   pub target : (a : HardwareAddress) → ReadBack (linkLayerBytes 2 a) (TargetLinkLayerAddr a) 1

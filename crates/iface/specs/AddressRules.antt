@@ -4,15 +4,16 @@ use Prim.Native.Nat.{ℕ}
 use mathlib.Core.Path.{_≡_}
 use mathlib.Core.Bool.{Bool, true, false, cond}
 use mathlib.Core.List.{List, [], _∷_, _++_}
-use lib.ListN.{take, length, getD, replicate}
+use lib.ListN.{take, drop, length, getD, replicate}
 use lib.Dec.{ltb}
-use Rattle.table.specs.Table.{filled, kept, atFirst, anyOf, firstOf}
+use Rattle.table.specs.Table.{filled, kept, atFirst, anyOf, firstOf, ifRoom}
+use Rattle.wire.specs.declared.ipv6.Ipv6Addr.{Ipv6Addr}
 use Rattle.wire.specs.declared.ipv6.Ipv6Cidr.{Ipv6Cidr}
 use Rattle.wire.specs.declared.error.Check.{Check}
-use Rattle.wire.specs.declared.error.Check.the-variants.{Fine, Refused as Fails}
+use Rattle.wire.specs.declared.error.Refusal.{Refusal}
+use Rattle.wire.specs.declared.error.Outcome.the-variants.{Refused, Done}
 use Rattle.wire.specs.Rfc4291.{sameCidr, isLinkLocal}
-use Rattle.wire.specs.Refusals.{firstRefusal, checkNumber, noSuchIface}
-use Rattle.iface.specs.declared.Outcome.the-variants.{Refused, Done}
+use Rattle.wire.specs.Refusals.{Row, firstRefusal, checkNumber, outcomeNumber, decided, noSuchIface}
 use Rattle.iface.specs.declared.addr.AddrOrigin.{AddrOrigin}
 use Rattle.iface.specs.declared.addr.AddrOrigin.the-variants.{Manual, Slaac}
 use Rattle.iface.specs.declared.addr.Preferred.{Preferred}
@@ -25,9 +26,9 @@ use Rattle.iface.specs.declared.addr.Source.{Source}
 use Rattle.iface.specs.declared.addr.Source.the-variants.{Nothing as NoSource, From}
 use Rattle.iface.specs.declared.addr.AddrAt.{AddrAt}
 use Rattle.iface.specs.declared.addr.AddrAt.the-variants.{Nothing, Is}
-use Rattle.iface.specs.Answers.{outcomeNumber, prefixTooLong, duplicate, noRoom, ifRoom}
+use Rattle.iface.specs.Answers.{prefixTooLong, duplicate, noRoom, sourceNumber, sourceShown, addrAtNumber, addrAtShown}
 
--- the entries: the first `len` slots; "A count above its size reads as the size"
+-- the entries: the first `len` slots, "addresses 8 per interface"; "A count above its size reads as the size"
 abbrev pub addrsOf : IfaceAddrs → List IfaceAddr
 addrsOf t = take (t .len) (t .slots)
 
@@ -63,13 +64,17 @@ abbrev pub manualAddr : Ipv6Cidr → IfaceAddr
 manualAddr c = record { cidr = c; origin = Manual; preferred = Always }
 
 -- 7, 14, then 9: "application adds an address already there with that length (any origin)", then 8
-abbrev pub addrCheck : ℕ → Ipv6Cidr → List IfaceAddr → Check
-addrCheck iface c es = firstRefusal (noSuchIface iface ∷ prefixTooLong c ∷ duplicate (anyOf (isAddr c) es) ∷ noRoom 8 es ∷ [])
+abbrev pub addrRows : ℕ → Ipv6Cidr → List IfaceAddr → List Row
+addrRows iface c es = noSuchIface iface ∷ prefixTooLong c ∷ duplicate (anyOf (isAddr c) es) ∷ noRoom 8 es ∷ []
 
--- "A refusal returns its number and changes nothing."
+abbrev pub addrCheck : ℕ → Ipv6Cidr → List IfaceAddr → Check
+addrCheck iface c es = firstRefusal (addrRows iface c es)
+
+abbrev pub notAdded : IfaceAddrs → Refusal → Added
+notAdded t why = record { addrs = t; outcome = Refused why }
+
 abbrev pub addAddrBy : Check → IfaceAddrs → Ipv6Cidr → Added
-addAddrBy (Fails why) t c = record { addrs = t; outcome = Refused why }
-addAddrBy Fine t c = record { addrs = withAddrs t (addrsOf t ++ (manualAddr c ∷ [])); outcome = Done }
+addAddrBy check t c = decided check (notAdded t) (record { addrs = withAddrs t (addrsOf t ++ (manualAddr c ∷ [])); outcome = Done })
 
 pub record AddedTo (t : IfaceAddrs) (iface : ℕ) (c : Ipv6Cidr) (r : Added) : Type 0 where
   pub is : r ≡ addAddrBy (addrCheck iface c (addrsOf t)) t c
@@ -109,7 +114,21 @@ sourceOf e = From (e .cidr .address)
 unfoldable pub firstLocal : List IfaceAddr → Source
 firstLocal es = firstOf isLocal sourceOf NoSource es
 
+-- the address of an entry, and nothing else
+abbrev pub addressAlone : IfaceAddr → List Ipv6Addr
+addressAlone e = e .cidr .address ∷ []
+
+pub record LocalOf (t : IfaceAddrs) (r : Source) : Type 0 where
+  pub is : r ≡ firstLocal (addrsOf t)
+  pub number : sourceNumber r ≡ 0
+  pub shows : sourceShown r ≡ firstOf isLocal addressAlone [] (addrsOf t)
+
 -- Listing: the entry at an index
 
 abbrev pub addrAt : IfaceAddrs → ℕ → AddrAt
 addrAt t i = cond (ltb i (length (addrsOf t))) (Is (getD (addrsOf t) i noAddr)) Nothing
+
+pub record AddrListed (t : IfaceAddrs) (i : ℕ) (r : AddrAt) : Type 0 where
+  pub is : r ≡ addrAt t i
+  pub number : addrAtNumber r ≡ 0
+  pub shows : addrAtShown r ≡ take 1 (drop i (addrsOf t))

@@ -1,3 +1,4 @@
 pub mod Answers
 pub mod AddressRules
 pub mod RouteRules
+pub mod Distinct

@@ -4,18 +4,18 @@ use Prim.Native.Nat.{ℕ}
 use mathlib.Core.Path.{_≡_}
 use mathlib.Core.Bool.{Bool, true, false, cond, _&&_, not}
 use mathlib.Core.List.{List, [], _∷_, _++_}
-use lib.ListN.{take, length, getD, replicate}
+use lib.ListN.{take, drop, length, getD, replicate}
 use lib.Dec.{ltb, eqb}
-use Rattle.table.specs.Table.{filled, kept, atFirst, anyOf}
+use Rattle.table.specs.Table.{filled, kept, atFirst, anyOf, ifRoom}
 use Rattle.time.specs.declared.Instant.{Instant}
 use Rattle.time.specs.declared.Expiry.the-variants.{Forever, At}
 use Rattle.wire.specs.declared.ipv6.Ipv6Addr.{Ipv6Addr}
 use Rattle.wire.specs.declared.ipv6.Ipv6Cidr.{Ipv6Cidr}
 use Rattle.wire.specs.declared.error.Check.{Check}
-use Rattle.wire.specs.declared.error.Check.the-variants.{Fine, Refused as Fails}
+use Rattle.wire.specs.declared.error.Refusal.{Refusal}
+use Rattle.wire.specs.declared.error.Outcome.the-variants.{Refused, Done}
 use Rattle.wire.specs.Rfc4291.{sameAddr, sameCidr}
-use Rattle.wire.specs.Refusals.{firstRefusal, checkNumber, noSuchIface}
-use Rattle.iface.specs.declared.Outcome.the-variants.{Refused, Done}
+use Rattle.wire.specs.Refusals.{Row, firstRefusal, checkNumber, outcomeNumber, decided, noSuchIface}
 use Rattle.iface.specs.declared.route.RouteOrigin.{RouteOrigin}
 use Rattle.iface.specs.declared.route.RouteOrigin.the-variants.{Manual, Slaac}
 use Rattle.iface.specs.declared.route.Route.{Route}
@@ -23,10 +23,10 @@ use Rattle.iface.specs.declared.route.Routes.{Routes}
 use Rattle.iface.specs.declared.route.AddedRoute.{AddedRoute}
 use Rattle.iface.specs.declared.route.RouteAt.{RouteAt}
 use Rattle.iface.specs.declared.route.RouteAt.the-variants.{Nothing, Is}
-use Rattle.iface.specs.Answers.{outcomeNumber, prefixTooLong, duplicate, noRoom, ifRoom}
+use Rattle.iface.specs.Answers.{prefixTooLong, duplicate, noRoom, routeAtNumber, routeAtShown}
 use Rattle.iface.specs.AddressRules.{anywhere}
 
--- the entries: the first `len` slots; "A count above its size reads as the size"
+-- the entries: the first `len` slots, "routes 8"; "A count above its size reads as the size"
 abbrev pub routesOf : Routes → List Route
 routesOf t = take (t .len) (t .slots)
 
@@ -59,14 +59,17 @@ abbrev pub isManualRoute : ℕ → Ipv6Cidr → Ipv6Addr → Route → Bool
 isManualRoute iface c via e = not (isSlaac (e .origin)) && isRoute iface c via e
 
 -- 7, 14, then 9: "a route equal to an application's in prefix, router and interface", then 8
-abbrev pub routeCheck : ℕ → Ipv6Cidr → Ipv6Addr → List Route → Check
-routeCheck iface c via es =
-    firstRefusal (noSuchIface iface ∷ prefixTooLong c ∷ duplicate (anyOf (isManualRoute iface c via) es) ∷ noRoom 8 es ∷ [])
+abbrev pub routeRows : ℕ → Ipv6Cidr → Ipv6Addr → List Route → List Row
+routeRows iface c via es = noSuchIface iface ∷ prefixTooLong c ∷ duplicate (anyOf (isManualRoute iface c via) es) ∷ noRoom 8 es ∷ []
 
--- "A refusal returns its number and changes nothing."
+abbrev pub routeCheck : ℕ → Ipv6Cidr → Ipv6Addr → List Route → Check
+routeCheck iface c via es = firstRefusal (routeRows iface c via es)
+
+abbrev pub notAdded : Routes → Refusal → AddedRoute
+notAdded t why = record { routes = t; outcome = Refused why }
+
 abbrev pub addRouteBy : Check → Routes → Route → AddedRoute
-addRouteBy (Fails why) t e = record { routes = t; outcome = Refused why }
-addRouteBy Fine t e = record { routes = withRoutes t (routesOf t ++ (e ∷ [])); outcome = Done }
+addRouteBy check t e = decided check (notAdded t) (record { routes = withRoutes t (routesOf t ++ (e ∷ [])); outcome = Done })
 
 pub record AddedRouteTo (t : Routes) (iface : ℕ) (c : Ipv6Cidr) (via : Ipv6Addr) (r : AddedRoute) : Type 0 where
   pub is : r ≡ addRouteBy (routeCheck iface c via (routesOf t)) t (manualRoute iface c via)
@@ -107,3 +110,8 @@ clearRoutes iface es = kept (isLearned iface) es
 
 abbrev pub routeAt : Routes → ℕ → RouteAt
 routeAt t i = cond (ltb i (length (routesOf t))) (Is (getD (routesOf t) i noRoute)) Nothing
+
+pub record RouteListed (t : Routes) (i : ℕ) (r : RouteAt) : Type 0 where
+  pub is : r ≡ routeAt t i
+  pub number : routeAtNumber r ≡ 0
+  pub shows : routeAtShown r ≡ take 1 (drop i (routesOf t))

@@ -1,14 +1,17 @@
 // The addresses of an interface.
 ghost use mathlib.Core.Path.{_≡_};
-ghost use Rattle.iface.specs.AddressRules.{addrsOf, withAddrs, emptyAddrs, isSlaac, manualAddr, AddedTo, dropAddr, clearAddrs, firstLocal, addrAt};
-use crate::Outcome;
+ghost use Rattle.iface.specs.AddressRules.{addrsOf, withAddrs, emptyAddrs, isSlaac, manualAddr, AddedTo, dropAddr, clearAddrs, LocalOf, AddrListed};
 use crate::check_prefix;
 use table::count_of;
 use time::Expiry;
 use wire::error::Check;
+use wire::error::Outcome;
 use wire::error::Refusal;
 use wire::ipv6::Ipv6Addr;
 use wire::ipv6::Ipv6Cidr;
+
+// How many addresses an interface can hold.
+pub const IFACE_ADDR_COUNT: usize = 8;
 
 // Who put an address there.
 pub enum AddrOrigin {
@@ -36,7 +39,7 @@ pub struct IfaceAddr {
 }
 
 pub struct IfaceAddrs {
-    pub slots: [IfaceAddr; 8],
+    pub slots: [IfaceAddr; IFACE_ADDR_COUNT],
     pub len: usize,
 }
 
@@ -93,12 +96,15 @@ impl IfaceAddrs {
     pub fn new() -> IfaceAddrs
         ensures { λ r. ⌜ r ≡ emptyAddrs ⌝ }
     {
-        let e = IfaceAddr::manual(Ipv6Cidr {
+        let blank = IfaceAddr::manual(Ipv6Cidr {
             address: Ipv6Addr { hi: 0, lo: 0 },
             prefix_len: 0,
         });
-        let s = [e; 8];
-        IfaceAddrs { slots: s, len: 0 }
+        let slots = [blank; IFACE_ADDR_COUNT];
+        IfaceAddrs {
+            slots: slots,
+            len: 0,
+        }
     }
 
     // The application assigns an address.
@@ -111,12 +117,12 @@ impl IfaceAddrs {
                 outcome: Outcome::Refused(why),
             };
         }
-        let len = count_of(self.len, 8);
+        let count = count_of(self.len, IFACE_ADDR_COUNT);
         let mut i = 0;
-        while i < len {
-            let e = self.slots[i];
-            let c = e.cidr;
-            if c.same(cidr) {
+        while i < count {
+            let entry = self.slots[i];
+            let taken = entry.cidr;
+            if taken.same(cidr) {
                 return Added {
                     addrs: self,
                     outcome: Outcome::Refused(Refusal::Duplicate),
@@ -124,13 +130,13 @@ impl IfaceAddrs {
             }
             i += 1;
         }
-        if len < 8 {
-            let mut t = self;
+        if count < IFACE_ADDR_COUNT {
+            let mut addrs = self;
             let new = IfaceAddr::manual(cidr);
-            t.slots[len] = new;
-            t.len = len + 1;
+            addrs.slots[count] = new;
+            addrs.len = count + 1;
             return Added {
-                addrs: t,
+                addrs: addrs,
                 outcome: Outcome::Done,
             };
         }
@@ -144,71 +150,71 @@ impl IfaceAddrs {
     pub fn drop_addr(self, cidr: Ipv6Cidr) -> IfaceAddrs
         ensures { λ r. ⌜ r ≡ withAddrs self (dropAddr cidr (addrsOf self)) ⌝ }
     {
-        let k = count_of(self.len, 8);
+        let count = count_of(self.len, IFACE_ADDR_COUNT);
         let mut i = 0;
-        while i < k {
-            let old = self.slots[i];
-            let c = old.cidr;
-            if c.same(cidr) {
-                let mut t = self;
-                let o = old.origin;
-                if o.is_slaac() {
+        while i < count {
+            let entry = self.slots[i];
+            let entry_cidr = entry.cidr;
+            if entry_cidr.same(cidr) {
+                let mut addrs = self;
+                let origin = entry.origin;
+                if origin.is_slaac() {
                     let mut hole = i;
                     let mut next = i + 1;
-                    while next < k {
-                        let later = t.slots[next];
-                        t.slots[hole] = later;
+                    while next < count {
+                        let later = addrs.slots[next];
+                        addrs.slots[hole] = later;
                         hole = next;
                         next += 1;
                     }
-                    t.len = hole;
-                    return t;
+                    addrs.len = hole;
+                    return addrs;
                 }
-                t.len = k;
-                return t;
+                addrs.len = count;
+                return addrs;
             }
             i += 1;
         }
-        let mut t = self;
-        t.len = k;
-        t
+        let mut addrs = self;
+        addrs.len = count;
+        addrs
     }
 
     // SLAAC's addresses go, and the others keep their order.
     pub fn clear_slaac(self) -> Cleared
         ensures { λ r. ⌜ r ≡ clearAddrs self ⌝ }
     {
-        let k = count_of(self.len, 8);
-        let mut t = self;
-        let mut w = 0;
+        let count = count_of(self.len, IFACE_ADDR_COUNT);
+        let mut addrs = self;
+        let mut kept = 0;
         let mut i = 0;
-        while i < k {
-            let e = t.slots[i];
-            let o = e.origin;
+        while i < count {
+            let entry = addrs.slots[i];
+            let origin = entry.origin;
             i += 1;
-            if !o.is_slaac() {
-                t.slots[w] = e;
-                w += 1;
+            if !origin.is_slaac() {
+                addrs.slots[kept] = entry;
+                kept += 1;
             }
         }
-        t.len = w;
+        addrs.len = kept;
         Cleared {
-            addrs: t,
-            any: w < k,
+            addrs: addrs,
+            any: kept < count,
         }
     }
 
     // The first link-local address, if there is one.
     pub fn link_local_ipv6_address(self) -> Source
-        ensures { λ r. ⌜ r ≡ firstLocal (addrsOf self) ⌝ }
+        ensures { λ r. ⌜ LocalOf self r ⌝ }
     {
-        let k = count_of(self.len, 8);
+        let count = count_of(self.len, IFACE_ADDR_COUNT);
         let mut i = 0;
-        while i < k {
-            let e = self.slots[i];
-            let a = e.cidr.address;
-            if a.is_link_local() {
-                return Source::From(a);
+        while i < count {
+            let entry = self.slots[i];
+            let address = entry.cidr.address;
+            if address.is_link_local() {
+                return Source::From(address);
             }
             i += 1;
         }
@@ -217,12 +223,12 @@ impl IfaceAddrs {
 
     // The listing, entry by entry.
     pub fn at(self, index: usize) -> AddrAt
-        ensures { λ r. ⌜ r ≡ addrAt self index ⌝ }
+        ensures { λ r. ⌜ AddrListed self index r ⌝ }
     {
-        let k = count_of(self.len, 8);
-        if index < k {
-            let e = self.slots[index];
-            return AddrAt::Is(e);
+        let count = count_of(self.len, IFACE_ADDR_COUNT);
+        if index < count {
+            let entry = self.slots[index];
+            return AddrAt::Is(entry);
         }
         AddrAt::Nothing
     }

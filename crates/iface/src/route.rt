@@ -1,16 +1,18 @@
 // The routes, shared by the interfaces.
 ghost use mathlib.Core.Path.{_≡_};
-ghost use Rattle.iface.specs.AddressRules.{anywhere};
-ghost use Rattle.iface.specs.RouteRules.{routesOf, withRoutes, emptyRoutes, isSlaac, isRoute, isManualRoute, isLearned, isInstalled, manualRoute, AddedRouteTo, dropRoute, clearRoutes, routeAt};
-use crate::Outcome;
+ghost use Rattle.iface.specs.RouteRules.{routesOf, withRoutes, emptyRoutes, isSlaac, isRoute, isManualRoute, isLearned, isInstalled, manualRoute, AddedRouteTo, dropRoute, clearRoutes, RouteListed};
 use crate::check_prefix;
 use table::count_of;
 use time::Expiry;
 use time::Instant;
 use wire::error::Check;
+use wire::error::Outcome;
 use wire::error::Refusal;
 use wire::ipv6::Ipv6Addr;
 use wire::ipv6::Ipv6Cidr;
+
+// How many routes the interfaces can share.
+pub const ROUTE_COUNT: usize = 8;
 
 // Who put a route there.
 pub enum RouteOrigin {
@@ -30,7 +32,7 @@ pub struct Route {
 }
 
 pub struct Routes {
-    pub slots: [Route; 8],
+    pub slots: [Route; ROUTE_COUNT],
     pub len: usize,
 }
 
@@ -81,42 +83,42 @@ impl Route {
     fn same_route(self, iface: u8, cidr: Ipv6Cidr, via_router: Ipv6Addr) -> bool
         ensures { λ r. ⌜ r ≡ isRoute iface cidr «via_router» self ⌝ }
     {
-        let c = self.cidr;
-        let v = self.via_router;
-        let i = self.iface == iface;
-        let p = c.same(cidr);
-        let r = v.same(via_router);
-        i & p & r
+        let own_cidr = self.cidr;
+        let own_router = self.via_router;
+        let same_iface = self.iface == iface;
+        let same_cidr = own_cidr.same(cidr);
+        let same_router = own_router.same(via_router);
+        same_iface & same_cidr & same_router
     }
 
     // Whether it is a route that the application added, out of the interface to the prefix via the router.
     fn assigned(self, iface: u8, cidr: Ipv6Cidr, via_router: Ipv6Addr) -> bool
         ensures { λ r. ⌜ r ≡ isManualRoute iface cidr «via_router» self ⌝ }
     {
-        let o = self.origin;
-        let s = o.is_slaac();
+        let origin = self.origin;
+        let from_slaac = origin.is_slaac();
         let same = self.same_route(iface, cidr, via_router);
-        !s & same
+        !from_slaac & same
     }
 
     // Whether it is the default route by that router that SLAAC installed on the interface.
     pub fn installed(self, iface: u8, via_router: Ipv6Addr) -> bool
         ensures { λ r. ⌜ r ≡ isInstalled iface «via_router» self ⌝ }
     {
-        let o = self.origin;
-        let s = o.is_slaac();
+        let origin = self.origin;
+        let from_slaac = origin.is_slaac();
         let same = self.same_route(iface, IPV6_DEFAULT, via_router);
-        s & same
+        from_slaac & same
     }
 
     // Whether SLAAC learned it on the interface.
     fn is_learned(self, iface: u8) -> bool
         ensures { λ r. ⌜ r ≡ isLearned iface self ⌝ }
     {
-        let o = self.origin;
-        let s = o.is_slaac();
-        let i = self.iface == iface;
-        s & i
+        let origin = self.origin;
+        let from_slaac = origin.is_slaac();
+        let same_iface = self.iface == iface;
+        from_slaac & same_iface
     }
 }
 
@@ -125,15 +127,18 @@ impl Routes {
     pub fn new() -> Routes
         ensures { λ r. ⌜ r ≡ emptyRoutes ⌝ }
     {
-        let e = Route {
+        let blank = Route {
             cidr: IPV6_DEFAULT,
             via_router: Ipv6Addr { hi: 0, lo: 0 },
             iface: 0,
             origin: RouteOrigin::Manual,
             expires_at: Expiry::At(Instant(0)),
         };
-        let s = [e; 8];
-        Routes { slots: s, len: 0 }
+        let slots = [blank; ROUTE_COUNT];
+        Routes {
+            slots: slots,
+            len: 0,
+        }
     }
 
     // The application adds a route.
@@ -146,11 +151,11 @@ impl Routes {
                 outcome: Outcome::Refused(why),
             };
         }
-        let len = count_of(self.len, 8);
+        let count = count_of(self.len, ROUTE_COUNT);
         let mut i = 0;
-        while i < len {
-            let e = self.slots[i];
-            if e.assigned(iface, cidr, via_router) {
+        while i < count {
+            let entry = self.slots[i];
+            if entry.assigned(iface, cidr, via_router) {
                 return AddedRoute {
                     routes: self,
                     outcome: Outcome::Refused(Refusal::Duplicate),
@@ -158,13 +163,13 @@ impl Routes {
             }
             i += 1;
         }
-        if len < 8 {
-            let mut t = self;
+        if count < ROUTE_COUNT {
+            let mut routes = self;
             let new = Route::manual(iface, cidr, via_router);
-            t.slots[len] = new;
-            t.len = len + 1;
+            routes.slots[count] = new;
+            routes.len = count + 1;
             return AddedRoute {
-                routes: t,
+                routes: routes,
                 outcome: Outcome::Done,
             };
         }
@@ -179,58 +184,58 @@ impl Routes {
     pub fn drop_route(self, iface: u8, via_router: Ipv6Addr) -> Routes
         ensures { λ r. ⌜ r ≡ withRoutes self (dropRoute iface «via_router» (routesOf self)) ⌝ }
     {
-        let k = count_of(self.len, 8);
+        let count = count_of(self.len, ROUTE_COUNT);
         let mut i = 0;
-        while i < k {
-            let old = self.slots[i];
-            if old.installed(iface, via_router) {
-                let mut t = self;
+        while i < count {
+            let entry = self.slots[i];
+            if entry.installed(iface, via_router) {
+                let mut routes = self;
                 let mut hole = i;
                 let mut next = i + 1;
-                while next < k {
-                    let later = t.slots[next];
-                    t.slots[hole] = later;
+                while next < count {
+                    let later = routes.slots[next];
+                    routes.slots[hole] = later;
                     hole = next;
                     next += 1;
                 }
-                t.len = hole;
-                return t;
+                routes.len = hole;
+                return routes;
             }
             i += 1;
         }
-        let mut t = self;
-        t.len = k;
-        t
+        let mut routes = self;
+        routes.len = count;
+        routes
     }
 
     // SLAAC's routes of the interface go, and the others keep their order.
     pub fn clear_slaac(self, iface: u8) -> Routes
         ensures { λ r. ⌜ r ≡ withRoutes self (clearRoutes iface (routesOf self)) ⌝ }
     {
-        let k = count_of(self.len, 8);
-        let mut t = self;
-        let mut w = 0;
+        let count = count_of(self.len, ROUTE_COUNT);
+        let mut routes = self;
+        let mut kept = 0;
         let mut i = 0;
-        while i < k {
-            let e = t.slots[i];
+        while i < count {
+            let entry = routes.slots[i];
             i += 1;
-            if !e.is_learned(iface) {
-                t.slots[w] = e;
-                w += 1;
+            if !entry.is_learned(iface) {
+                routes.slots[kept] = entry;
+                kept += 1;
             }
         }
-        t.len = w;
-        t
+        routes.len = kept;
+        routes
     }
 
     // The listing, entry by entry.
     pub fn at(self, index: usize) -> RouteAt
-        ensures { λ r. ⌜ r ≡ routeAt self index ⌝ }
+        ensures { λ r. ⌜ RouteListed self index r ⌝ }
     {
-        let k = count_of(self.len, 8);
-        if index < k {
-            let e = self.slots[index];
-            return RouteAt::Is(e);
+        let count = count_of(self.len, ROUTE_COUNT);
+        if index < count {
+            let entry = self.slots[index];
+            return RouteAt::Is(entry);
         }
         RouteAt::Nothing
     }

@@ -10,9 +10,9 @@ use Rattle.sweep.specs.SweepCalls.{SweptTo}
 use Rattle.wire.specs.declared.ethernet.HardwareAddress.{HardwareAddress}
 use Rattle.iface.specs.declared.addr.IfaceAddrs.{IfaceAddrs}
 use Rattle.iface.specs.declared.route.Routes.{Routes}
-use Rattle.learned.specs.declared.Slaac.{Slaac}
-use Rattle.slaac.specs.declared.PolledAt.{PolledAt}
-use Rattle.slaac.specs.PollRules.{PolledTo}
+use Rattle.slaac.specs.declared.Slaac.{Slaac}
+use Rattle.autoconf.specs.declared.PolledAt.{PolledAt}
+use Rattle.autoconf.specs.PollRules.{PolledTo}
 use Rattle.lent.specs.LentRules.{reportOf, ReportedTo, PolledBy}
 
 pub reported : (c : NeighborCache) (k : Clock) (i : ℕ) (r : Swept) → SweptTo c k i r → ReportedTo c k i (reportOf r) (r .clock)
@@ -21,4 +21,10 @@ reported c k i r e = record { is = ap reportOf (e .is); clock = ap (λ (s : Swep
 pub polled-by : (s : Slaac) (t : IfaceAddrs) (r : Routes) (iface : ℕ) (up : Bool) (hw : HardwareAddress) (buf : List ℕ) (k : Clock) (p : PolledAt)
     (buf′ : List ℕ) → PolledTo s t r iface up hw buf k p buf′ → PolledBy s t r iface up hw buf k (p .polled) buf′ (p .clock)
 polled-by s t r iface up hw buf k p buf′ w =
-    record { is = ap (λ (x : PolledAt). x .polled) (w .is); number = w .number; leaves = w .leaves; clock = ap (λ (x : PolledAt). x .clock) (w .is) }
+    record {
+      is = ap (λ (x : PolledAt). x .polled) (w .is);
+      number = w .number;
+      sends = w .sends;
+      leaves = w .leaves;
+      clock = ap (λ (x : PolledAt). x .clock) (w .is);
+    }

@@ -1,16 +1,16 @@
 // The outermost calls, to which the clock is lent. Each reads the clock whole, makes one call with the clock by value, and stores it
 // whole.
 ghost use Rattle.lent.specs.LentRules.{ReportedTo, PolledBy};
+use autoconf::Polled;
+use autoconf::poll_at;
 use iface::addr::IfaceAddrs;
 use iface::route::Routes;
-use learned::Slaac;
 use neighbor::NeighborCache;
-use neighbor::Outcome;
-use slaac::Polled;
-use slaac::poll_at;
+use slaac::Slaac;
 use sweep::Events;
 use sweep::sweep_at;
 use time::Clock;
+use wire::error::Outcome;
 use wire::ethernet::HardwareAddress;
 
 // What a sweep leaves beside the clock.
@@ -24,12 +24,12 @@ pub struct Reported {
 pub fn sweep(cache: NeighborCache, clock: &mut Clock, iface: u8) -> Reported
     ensures { λ r. ⌜ ReportedTo cache (now (clock .entry)) iface r (now (clock .exit)) ⌝ }
 {
-    let s = sweep_at(cache, *clock, iface);
-    *clock = s.clock;
+    let swept = sweep_at(cache, *clock, iface);
+    *clock = swept.clock;
     Reported {
-        cache: s.cache,
-        events: s.events,
-        outcome: s.outcome,
+        cache: swept.cache,
+        events: swept.events,
+        outcome: swept.outcome,
     }
 }
 
@@ -46,7 +46,7 @@ pub fn poll(
 ) -> Polled
     ensures { λ r. ⌜ PolledBy slaac addrs routes iface up «hardware_addr» (now (buf .entry)) (now (clock .entry)) r (now (buf .exit)) (now (clock .exit)) ⌝ }
 {
-    let p = poll_at(slaac, addrs, routes, iface, up, hardware_addr, buf, *clock);
-    *clock = p.clock;
-    p.polled
+    let polled_at = poll_at(slaac, addrs, routes, iface, up, hardware_addr, buf, *clock);
+    *clock = polled_at.clock;
+    polled_at.polled
 }

@@ -8,21 +8,22 @@ use mathlib.Core.Bool.{Bool, true, false, cond}
 use mathlib.Core.List.{List, [], _∷_}
 use mathlib.Core.Path.{_≡_, refl, sym, ap, _∙_}
 use native.Mathlib.Omega.{arith}
-use Rattle.lines.specs.EventLines.{raWith, raOf, raBytes, bytesWith, startOf, removeOf, fillOf, fillWith, kindOf, parsedWith, bytesAfter, ParsedTo, kindIn, kindBytesIn, wordOf, messageBytes, ReadyRead, ReadyEvent, Silent, SilentEvent, RaTo, KindTo}
+use Rattle.lines.specs.EventLines.{raWith, raOf, raBytes, bytesWith, startOf, removeOf, fillOf, fillWith, kindOf, parsedWith, bytesAfter, ParsedTo, kindIn, kindBytesIn, wordOf, messageBytes, ReadyRead, Silent, RaTo, KindTo}
 use Rattle.lines.specs.HeaderLines.{macOf, countOf, staticOf, staticWith}
 use Rattle.lines.specs.Words.{mac, up, down, poll, sweep, off, ra, start, fill, remove, noField, lastField}
-use Rattle.lines.specs.declared.event.Event.the-variants.{Up, Down, Poll, Sweep, Off, Ra, Start, Fill, Remove}
+use Rattle.lines.specs.declared.event.Event.the-variants.{Up, Down, Poll, Sweep, Off, Ra}
 use Rattle.lines.specs.declared.event.Event.{Event}
 use Rattle.lines.specs.declared.event.Parsed.the-variants.{At, Bad as NoLine}
 use Rattle.lines.specs.declared.event.Read.the-variants.{Event as Good, Bad}
 use Rattle.lines.specs.declared.event.Read.{Read}
 use Rattle.lines.specs.declared.header.Static.the-variants.{Value as Stat, Bad as NoStat}
+use Rattle.table.specs.Table.{filled}
 use Rattle.text.proofs.FieldLaws.{alone, parted, same, more-fields}
 use Rattle.text.proofs.RoundTrip.{Clear, spaced-number, spaced-address, spaced-hardware, spaced-message}
 use Rattle.text.specs.Addresses.{addressOf, hardwareOf, messageOf, bytesOf, MessageRead}
 use Rattle.text.specs.Decimal.{numberOf}
-use Rattle.text.specs.Fields.{Field, fields, indexOf, sameAs, Found, onto}
-use Rattle.text.specs.Hex.{unhexed, front}
+use Rattle.text.specs.Fields.{Field, fields, indexOf, Found, onto}
+use Rattle.text.specs.Hex.{unhexed}
 use Rattle.text.specs.declared.address.Address.the-variants.{Value as Addr, Bad as NoAddr}
 use Rattle.text.specs.declared.address.Address.{Address}
 use Rattle.text.specs.declared.address.Hardware.the-variants.{Bad as NoHw}
@@ -31,6 +32,7 @@ use Rattle.text.specs.declared.address.Message.the-variants.{Bytes, Bad as NoMe
 use Rattle.text.specs.declared.address.Message.{Message}
 use Rattle.text.specs.declared.number.Number.the-variants.{Value as Num, Bad as NoNum}
 use Rattle.text.specs.declared.number.Number.{Number}
+use Rattle.wire.specs.Rfc4291.{sameBytes}
 use Rattle.wire.specs.declared.ipv6.Ipv6Addr.{Ipv6Addr}
 
 -- ---- a line cut at its first space
@@ -134,10 +136,10 @@ module _ (s message : List ℕ) (f rest : List ℕ) (cut : Cut s f rest) where
     pub ra-good : (message' : List ℕ) (r : Message) (k : ℕ) → MessageRead rest message r message' → r ≡ Bytes k → RaTo s message (Good (Ra a k)) message'
     ra-good message' r k w z =
         let m : messageOf (length message) rest ≡ Bytes k = sym (w .is) ∙ z in
-        let b : message' ≡ front (unhexed rest) message = rw z at (w .bytes) in
+        let b : message' ≡ filled message (unhexed rest) = rw z at (w .bytes) in
         let n : k ≡ length (unhexed rest) = bytes-count (length message) rest k m in
         let v : raBytes (length message) (fields s) ≡ unhexed rest = rw (cut .is, p, last-bytes (length message) rest, m) refl in
-        let l : length (front (unhexed rest) message) ≡ length (unhexed rest) + length (drop (length (unhexed rest)) message) =
+        let l : length (filled message (unhexed rest)) ≡ length (unhexed rest) + length (drop (length (unhexed rest)) message) =
         length-append (unhexed rest) (drop (length (unhexed rest)) message) in
         record {
           is = rw (cut .is, p, last-message (length message) rest, m) refl;
@@ -150,20 +152,10 @@ module _ (s message : List ℕ) (f rest : List ℕ) (cut : Cut s f rest) where
 
 -- ---- kinds
 
-pub silent-event : (message bs : List ℕ) (e : Event) → SilentEvent e → ReadyEvent message bs e
-silent-event message bs Up w = tt
-silent-event message bs Down w = tt
-silent-event message bs Poll w = tt
-silent-event message bs Sweep w = tt
-silent-event message bs Off w = tt
-silent-event message bs (Ra a n) w = absurd w
-silent-event message bs (Start a) w = tt
-silent-event message bs (Fill a h) w = tt
-silent-event message bs (Remove a) w = tt
-
-pub silent : (message bs : List ℕ) (r : Read) → Silent r → ReadyRead message bs r
-silent message bs (Good e) w = silent-event message bs e w
-silent message bs Bad w = tt
+-- with an event that is no advertisement go no bytes
+silent : (message bs : List ℕ) (r : Read) → Silent r → bs ≡ [] → ReadyRead message bs r
+silent message bs (Good e) z b = (omega arith, rw (z, b) refl)
+silent message bs Bad w b = tt
 
 either : {A : Type 0} (x : A) (b : Bool) → cond b x x ≡ x
 either x true = refl
@@ -175,9 +167,9 @@ ends x y true e = refl
 ends x y false e = e
 
 module _ (room : ℕ) (w : Field) where
-  lone : cond (sameAs w ra) Bad (cond (sameAs w start) Bad (cond (sameAs w fill) Bad (cond (sameAs w remove) Bad Bad))) ≡ Bad
+  lone : cond (sameBytes w ra) Bad (cond (sameBytes w start) Bad (cond (sameBytes w fill) Bad (cond (sameBytes w remove) Bad Bad))) ≡ Bad
   lone =
-      ends Bad _ (sameAs w ra) (ends Bad _ (sameAs w start) (ends Bad _ (sameAs w fill) (either Bad (sameAs w remove))))
+      ends Bad _ (sameBytes w ra) (ends Bad _ (sameBytes w start) (ends Bad _ (sameBytes w fill) (either Bad (sameBytes w remove))))
 
   -- with no field more, it is one of the words
   word-kind : kindOf room w [] ≡ wordOf w
@@ -194,38 +186,35 @@ module _ (room : ℕ) (w : Field) where
   some (b ∷ s) g = some-by b s g (fields s) (eqb b 32)
 
   -- with a field more, and none of the other words, it is bad
-  other-kind : (s : List ℕ) → sameAs w ra ≡ false → sameAs w start ≡ false → sameAs w fill ≡ false → sameAs w remove ≡ false → kindOf room w (fields s) ≡ Bad
+  other-kind : (s : List ℕ) → sameBytes w ra ≡ false → sameBytes w start ≡ false → sameBytes w fill ≡ false → sameBytes w remove ≡ false → kindOf room w (fields s) ≡ Bad
   unfolding kindOf
   other-kind s p q r t =
       rw (p, q, r, t, some s (Good Up), some s (Good Down), some s (Good Poll), some s (Good Sweep), some s (Good Off))
-      (ends Bad _ (sameAs w up) (ends Bad _ (sameAs w down) (ends Bad _ (sameAs w poll) (ends Bad _ (sameAs w sweep) (either Bad (sameAs w off))))))
+      (ends Bad _ (sameBytes w up) (ends Bad _ (sameBytes w down) (ends Bad _ (sameBytes w poll) (ends Bad _ (sameBytes w sweep) (either Bad (sameBytes w off))))))
 
-  ra-kind : (fs : List Field) → sameAs w ra ≡ true → kindOf room w fs ≡ raOf room fs
+  ra-kind : (fs : List Field) → sameBytes w ra ≡ true → kindOf room w fs ≡ raOf room fs
   unfolding kindOf
   ra-kind fs p = ap (λ (v : Field). kindOf room v fs) (same w ra p)
 
-  start-kind : (fs : List Field) → sameAs w start ≡ true → kindOf room w fs ≡ startOf fs
+  start-kind : (fs : List Field) → sameBytes w start ≡ true → kindOf room w fs ≡ startOf fs
   unfolding kindOf
   start-kind fs p = ap (λ (v : Field). kindOf room v fs) (same w start p)
 
-  fill-kind : (fs : List Field) → sameAs w fill ≡ true → kindOf room w fs ≡ fillOf fs
+  fill-kind : (fs : List Field) → sameBytes w fill ≡ true → kindOf room w fs ≡ fillOf fs
   unfolding kindOf
   fill-kind fs p = ap (λ (v : Field). kindOf room v fs) (same w fill p)
 
-  remove-kind : (fs : List Field) → sameAs w remove ≡ true → kindOf room w fs ≡ removeOf fs
+  remove-kind : (fs : List Field) → sameBytes w remove ≡ true → kindOf room w fs ≡ removeOf fs
   unfolding kindOf
   remove-kind fs p = ap (λ (v : Field). kindOf room v fs) (same w remove p)
 
 pub kind-word : (s message : List ℕ) (r : Read) → fields s ≡ s ∷ [] → r ≡ wordOf s → Silent r → KindTo s message r message
 kind-word s message r e p q =
-    record {
-      is = rw e (p ∙ sym (word-kind (length message) s));
-      bytes = rw e (rw (either {A = List ℕ} [] (sameAs s ra)) refl);
-      ready = silent message _ r q;
-    }
+    let none : kindBytesIn (length message) (fields s) ≡ [] = rw e (either {A = List ℕ} [] (sameBytes s ra)) in
+    record { is = rw e (p ∙ sym (word-kind (length message) s)); bytes = rw none refl; ready = silent message _ r q none }
 
 module _ (s message w rest : List ℕ) (cut : Cut s w rest) where
-  pub kind-ra : (r : Read) (message' : List ℕ) → sameAs w ra ≡ true → RaTo rest message r message' → KindTo s message r message'
+  pub kind-ra : (r : Read) (message' : List ℕ) → sameBytes w ra ≡ true → RaTo rest message r message' → KindTo s message r message'
   kind-ra r message' p v =
       let b : kindBytesIn (length message) (fields s) ≡ raBytes (length message) (fields rest) = rw (cut .is, p) refl in
       record {
@@ -234,44 +223,44 @@ module _ (s message w rest : List ℕ) (cut : Cut s w rest) where
         ready = rw b (v .ready);
       }
 
-  module _ (p : sameAs w ra ≡ false) where
+  module _ (p : sameBytes w ra ≡ false) where
     none : kindBytesIn (length message) (fields s) ≡ []
     none = rw (cut .is, p) refl
 
-    pub kind-start : (r : Read) → sameAs w start ≡ true → (r ≡ startOf (fields rest)) × Silent r → KindTo s message r message
+    pub kind-start : (r : Read) → sameBytes w start ≡ true → (r ≡ startOf (fields rest)) × Silent r → KindTo s message r message
     kind-start r q v =
-        record { is = rw (cut .is) (v .0 ∙ sym (start-kind (length message) w (fields rest) q)); bytes = rw none refl; ready = silent message _ r (v .1) }
+        record { is = rw (cut .is) (v .0 ∙ sym (start-kind (length message) w (fields rest) q)); bytes = rw none refl; ready = silent message _ r (v .1) none }
 
-    pub kind-fill : (r : Read) → sameAs w fill ≡ true → (r ≡ fillOf (fields rest)) × Silent r → KindTo s message r message
+    pub kind-fill : (r : Read) → sameBytes w fill ≡ true → (r ≡ fillOf (fields rest)) × Silent r → KindTo s message r message
     kind-fill r q v =
-        record { is = rw (cut .is) (v .0 ∙ sym (fill-kind (length message) w (fields rest) q)); bytes = rw none refl; ready = silent message _ r (v .1) }
+        record { is = rw (cut .is) (v .0 ∙ sym (fill-kind (length message) w (fields rest) q)); bytes = rw none refl; ready = silent message _ r (v .1) none }
 
-    pub kind-remove : (r : Read) → sameAs w remove ≡ true → (r ≡ removeOf (fields rest)) × Silent r → KindTo s message r message
+    pub kind-remove : (r : Read) → sameBytes w remove ≡ true → (r ≡ removeOf (fields rest)) × Silent r → KindTo s message r message
     kind-remove r q v =
-        record { is = rw (cut .is) (v .0 ∙ sym (remove-kind (length message) w (fields rest) q)); bytes = rw none refl; ready = silent message _ r (v .1) }
+        record { is = rw (cut .is) (v .0 ∙ sym (remove-kind (length message) w (fields rest) q)); bytes = rw none refl; ready = silent message _ r (v .1) none }
 
-    pub kind-none : sameAs w start ≡ false → sameAs w fill ≡ false → sameAs w remove ≡ false → KindTo s message Bad message
+    pub kind-none : sameBytes w start ≡ false → sameBytes w fill ≡ false → sameBytes w remove ≡ false → KindTo s message Bad message
     kind-none q r t =
         record { is = rw (cut .is) (sym (other-kind (length message) w rest p q r t)); bytes = rw none refl; ready = tt }
 
 -- ---- the words
 
-pub word-up : (s : List ℕ) → sameAs s up ≡ true → Good Up ≡ wordOf s
+pub word-up : (s : List ℕ) → sameBytes s up ≡ true → Good Up ≡ wordOf s
 word-up s a = rw a
 
-pub word-down : (s : List ℕ) → sameAs s up ≡ false → sameAs s down ≡ true → Good Down ≡ wordOf s
+pub word-down : (s : List ℕ) → sameBytes s up ≡ false → sameBytes s down ≡ true → Good Down ≡ wordOf s
 word-down s a b = rw (a, b)
 
-pub word-poll : (s : List ℕ) → sameAs s up ≡ false → sameAs s down ≡ false → sameAs s poll ≡ true → Good Poll ≡ wordOf s
+pub word-poll : (s : List ℕ) → sameBytes s up ≡ false → sameBytes s down ≡ false → sameBytes s poll ≡ true → Good Poll ≡ wordOf s
 word-poll s a b c = rw (a, b, c)
 
-pub word-sweep : (s : List ℕ) → sameAs s up ≡ false → sameAs s down ≡ false → sameAs s poll ≡ false → sameAs s sweep ≡ true → Good Sweep ≡ wordOf s
+pub word-sweep : (s : List ℕ) → sameBytes s up ≡ false → sameBytes s down ≡ false → sameBytes s poll ≡ false → sameBytes s sweep ≡ true → Good Sweep ≡ wordOf s
 word-sweep s a b c d = rw (a, b, c, d)
 
-pub word-off : (s : List ℕ) → sameAs s up ≡ false → sameAs s down ≡ false → sameAs s poll ≡ false → sameAs s sweep ≡ false → sameAs s off ≡ true → Good Off ≡ wordOf s
+pub word-off : (s : List ℕ) → sameBytes s up ≡ false → sameBytes s down ≡ false → sameBytes s poll ≡ false → sameBytes s sweep ≡ false → sameBytes s off ≡ true → Good Off ≡ wordOf s
 word-off s a b c d e = rw (a, b, c, d, e)
 
-pub word-none : (s : List ℕ) → sameAs s up ≡ false → sameAs s down ≡ false → sameAs s poll ≡ false → sameAs s sweep ≡ false → sameAs s off ≡ false → Bad ≡ wordOf s
+pub word-none : (s : List ℕ) → sameBytes s up ≡ false → sameBytes s down ≡ false → sameBytes s poll ≡ false → sameBytes s sweep ≡ false → sameBytes s off ≡ false → Bad ≡ wordOf s
 word-none s a b c d e = rw (a, b, c, d, e)
 
 -- ---- fill's line
@@ -322,21 +311,21 @@ module _ (s message f rest : List ℕ) (cut : Cut s f rest) where
 -- ---- header lines
 
 pub mac-one : (s : List ℕ) → fields s ≡ s ∷ [] → NoHw ≡ macOf (fields s)
-mac-one s e = rw e (sym (either NoHw (sameAs s mac)))
+mac-one s e = rw e (sym (either NoHw (sameBytes s mac)))
 
-pub mac-is : (s f rest : List ℕ) (r : Hardware) → Cut s f rest → sameAs f mac ≡ true → r ≡ hardwareOf rest → r ≡ macOf (fields s)
+pub mac-is : (s f rest : List ℕ) (r : Hardware) → Cut s f rest → sameBytes f mac ≡ true → r ≡ hardwareOf rest → r ≡ macOf (fields s)
 mac-is s f rest r cut p q = rw (cut .is, p, last-hardware rest) q
 
-pub mac-not : (s f rest : List ℕ) → Cut s f rest → sameAs f mac ≡ false → NoHw ≡ macOf (fields s)
+pub mac-not : (s f rest : List ℕ) → Cut s f rest → sameBytes f mac ≡ false → NoHw ≡ macOf (fields s)
 mac-not s f rest cut p = rw (cut .is, p) refl
 
 pub count-one : (s w : List ℕ) → fields s ≡ s ∷ [] → NoNum ≡ countOf w (fields s)
-count-one s w e = rw e (sym (either NoNum (sameAs s w)))
+count-one s w e = rw e (sym (either NoNum (sameBytes s w)))
 
-pub count-is : (s w f rest : List ℕ) (r : Number) → Cut s f rest → sameAs f w ≡ true → r ≡ numberOf rest → r ≡ countOf w (fields s)
+pub count-is : (s w f rest : List ℕ) (r : Number) → Cut s f rest → sameBytes f w ≡ true → r ≡ numberOf rest → r ≡ countOf w (fields s)
 count-is s w f rest r cut p q = rw (cut .is, p, last-number rest) q
 
-pub count-not : (s w f rest : List ℕ) → Cut s f rest → sameAs f w ≡ false → NoNum ≡ countOf w (fields s)
+pub count-not : (s w f rest : List ℕ) → Cut s f rest → sameBytes f w ≡ false → NoNum ≡ countOf w (fields s)
 count-not s w f rest cut p = rw (cut .is, p) refl
 
 static-none : (x : Address) → staticWith x NoNum ≡ NoStat

@@ -1,13 +1,14 @@
 -- Document 01: "Event kinds: up (restarts too), down, poll, ra (source, message), start (address), sweep, fill (address, hardware address),
--- remove (address), off. Each line begins with its time." By the line's fields. Assumes nothing.
+-- remove (address), off. Each line begins with its time". By the line's fields. Assumes nothing.
 use Prim.Native.Nat.{ℕ, _≤_}
 use mathlib.Core.Path.{_≡_}
 use mathlib.Core.Bool.{cond}
 use mathlib.Core.List.{List, [], _∷_}
 use lib.ListN.{length, take}
-use Rattle.text.specs.Fields.{Field, fields, sameAs}
+use Rattle.table.specs.Table.{filled}
+use Rattle.wire.specs.Rfc4291.{sameBytes}
+use Rattle.text.specs.Fields.{Field, fields}
 use Rattle.text.specs.Decimal.{numberOf}
-use Rattle.text.specs.Hex.{front}
 use Rattle.text.specs.Addresses.{addressOf, hardwareOf, messageOf, bytesOf}
 use Rattle.text.specs.declared.number.Number.{Number}
 use Rattle.text.specs.declared.number.Number.the-variants.{Value as Num, Bad as NoNum}
@@ -63,15 +64,15 @@ fillOf (a ∷ fs) = fillWith (addressOf a) (lastField NoHw hardwareOf fs)
 -- a kind and what goes with it; there is room for a message of so many bytes
 unfoldable pub kindOf : ℕ → Field → List Field → Read
 kindOf room w fs =
-    cond (sameAs w up) (noField Bad (Good Up) fs)
-    (cond (sameAs w down) (noField Bad (Good Down) fs)
-    (cond (sameAs w poll) (noField Bad (Good Poll) fs)
-    (cond (sameAs w sweep) (noField Bad (Good Sweep) fs)
-    (cond (sameAs w off) (noField Bad (Good Off) fs)
-    (cond (sameAs w ra) (raOf room fs)
-    (cond (sameAs w start) (startOf fs)
-    (cond (sameAs w fill) (fillOf fs)
-    (cond (sameAs w remove) (removeOf fs) Bad))))))))
+    cond (sameBytes w up) (noField Bad (Good Up) fs)
+    (cond (sameBytes w down) (noField Bad (Good Down) fs)
+    (cond (sameBytes w poll) (noField Bad (Good Poll) fs)
+    (cond (sameBytes w sweep) (noField Bad (Good Sweep) fs)
+    (cond (sameBytes w off) (noField Bad (Good Off) fs)
+    (cond (sameBytes w ra) (raOf room fs)
+    (cond (sameBytes w start) (startOf fs)
+    (cond (sameBytes w fill) (fillOf fs)
+    (cond (sameBytes w remove) (removeOf fs) Bad))))))))
 
 abbrev pub kindIn : ℕ → List Field → Read
 kindIn room [] = Bad
@@ -101,7 +102,7 @@ raBytes room [] = []
 raBytes room (a ∷ fs) = bytesWith (addressOf a) (lastField [] (messageBytes room) fs)
 
 abbrev pub kindBytes : ℕ → Field → List Field → List ℕ
-kindBytes room w fs = cond (sameAs w ra) (raBytes room fs) []
+kindBytes room w fs = cond (sameBytes w ra) (raBytes room fs) []
 
 abbrev pub bytesAfter : Number → List ℕ → List ℕ
 bytesAfter (Num t) bs = bs
@@ -115,18 +116,21 @@ abbrev pub parsedBytes : ℕ → List Field → List ℕ
 parsedBytes room [] = []
 parsedBytes room (t ∷ fs) = bytesAfter (numberOf t) (kindBytesIn room fs)
 
--- Of an advertisement, its bytes stand at the front of the message's buffer
+-- how many bytes of a message go with an event: with an advertisement alone are there any
+abbrev pub messageLen : Event → ℕ
+messageLen Up = 0
+messageLen Down = 0
+messageLen Poll = 0
+messageLen Sweep = 0
+messageLen Off = 0
+messageLen (Ra a n) = n
+messageLen (Start a) = 0
+messageLen (Fill a h) = 0
+messageLen (Remove a) = 0
 
+-- they stand at the front of the message's buffer
 abbrev pub ReadyEvent : List ℕ → List ℕ → Event → Type 0
-ReadyEvent message bs Up = Unit {0}
-ReadyEvent message bs Down = Unit {0}
-ReadyEvent message bs Poll = Unit {0}
-ReadyEvent message bs Sweep = Unit {0}
-ReadyEvent message bs Off = Unit {0}
-ReadyEvent message bs (Ra a n) = (n ≤ length message) × (take n message ≡ bs)
-ReadyEvent message bs (Start a) = Unit {0}
-ReadyEvent message bs (Fill a h) = Unit {0}
-ReadyEvent message bs (Remove a) = Unit {0}
+ReadyEvent message bs e = (messageLen e ≤ length message) × (take (messageLen e) message ≡ bs)
 
 abbrev pub ReadyRead : List ℕ → List ℕ → Read → Type 0
 ReadyRead message bs (Good e) = ReadyEvent message bs e
@@ -136,42 +140,31 @@ abbrev pub Ready : List ℕ → List ℕ → Parsed → Type 0
 Ready message bs (At t e) = ReadyEvent message bs e
 Ready message bs NoLine = Unit {0}
 
--- an event that is no advertisement
-abbrev pub SilentEvent : Event → Type 0
-SilentEvent Up = Unit {0}
-SilentEvent Down = Unit {0}
-SilentEvent Poll = Unit {0}
-SilentEvent Sweep = Unit {0}
-SilentEvent Off = Unit {0}
-SilentEvent (Ra a n) = ⊥
-SilentEvent (Start a) = Unit {0}
-SilentEvent (Fill a h) = Unit {0}
-SilentEvent (Remove a) = Unit {0}
-
+-- no advertisement
 abbrev pub Silent : Read → Type 0
-Silent (Good e) = SilentEvent e
+Silent (Good e) = messageLen e ≡ 0
 Silent Bad = Unit {0}
 
 -- the kinds that are one word
 abbrev pub wordOf : Field → Read
 wordOf s =
-    cond (sameAs s up) (Good Up)
-    (cond (sameAs s down) (Good Down)
-    (cond (sameAs s poll) (Good Poll)
-    (cond (sameAs s sweep) (Good Sweep)
-    (cond (sameAs s off) (Good Off) Bad))))
+    cond (sameBytes s up) (Good Up)
+    (cond (sameBytes s down) (Good Down)
+    (cond (sameBytes s poll) (Good Poll)
+    (cond (sameBytes s sweep) (Good Sweep)
+    (cond (sameBytes s off) (Good Off) Bad))))
 
 pub record RaTo (s message : List ℕ) (r : Read) (message' : List ℕ) : Type 0 where
   pub is : r ≡ raOf (length message) (fields s)
-  pub bytes : message' ≡ front (raBytes (length message) (fields s)) message
+  pub bytes : message' ≡ filled message (raBytes (length message) (fields s))
   pub ready : ReadyRead message' (raBytes (length message) (fields s)) r
 
 pub record KindTo (s message : List ℕ) (r : Read) (message' : List ℕ) : Type 0 where
   pub is : r ≡ kindIn (length message) (fields s)
-  pub bytes : message' ≡ front (kindBytesIn (length message) (fields s)) message
+  pub bytes : message' ≡ filled message (kindBytesIn (length message) (fields s))
   pub ready : ReadyRead message' (kindBytesIn (length message) (fields s)) r
 
 pub record ParsedTo (line message : List ℕ) (r : Parsed) (message' : List ℕ) : Type 0 where
   pub is : r ≡ parsedOf (length message) (fields line)
-  pub bytes : message' ≡ front (parsedBytes (length message) (fields line)) message
+  pub bytes : message' ≡ filled message (parsedBytes (length message) (fields line))
   pub ready : Ready message' (parsedBytes (length message) (fields line)) r

@@ -3,7 +3,8 @@ use Prim.Native.Nat.{ℕ}
 use mathlib.Core.Bool.{cond}
 use mathlib.Core.List.{List, [], _∷_}
 use lib.Dec.{ltb}
-use Rattle.text.specs.Fields.{Field, sameAs}
+use Rattle.wire.specs.Rfc4291.{sameBytes}
+use Rattle.text.specs.Fields.{Field}
 use Rattle.text.specs.Decimal.{numberOf}
 use Rattle.text.specs.Addresses.{addressOf, hardwareOf}
 use Rattle.text.specs.declared.number.Number.{Number}
@@ -18,12 +19,12 @@ use Rattle.lines.specs.Words.{mac, lastField}
 
 abbrev pub macOf : List Field → Hardware
 macOf [] = NoHw
-macOf (w ∷ fs) = cond (sameAs w mac) (lastField NoHw hardwareOf fs) NoHw
+macOf (w ∷ fs) = cond (sameBytes w mac) (lastField NoHw hardwareOf fs) NoHw
 
 -- the number after a word
 abbrev pub countOf : Field → List Field → Number
 countOf word [] = NoNum
-countOf word (w ∷ fs) = cond (sameAs w word) (lastField NoNum numberOf fs) NoNum
+countOf word (w ∷ fs) = cond (sameBytes w word) (lastField NoNum numberOf fs) NoNum
 
 -- a length above 255 is above 128, for which the address table would refuse the line
 abbrev pub staticWith : Address → Number → Static

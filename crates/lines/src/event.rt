@@ -40,71 +40,71 @@ pub enum Parsed {
 }
 
 // The kinds that are one word.
-fn read_word(s: &[u8]) -> Read
-    ensures { λ r. ⌜ (r ≡ wordOf (now (s .entry))) × Silent r ⌝ }
+fn read_word(rest: &[u8]) -> Read
+    ensures { λ r. ⌜ (r ≡ wordOf (now (rest .entry))) × Silent r ⌝ }
 {
-    if is(s, b"up") {
+    if is(rest, b"up") {
         return Read::Event(Event::Up);
     }
-    if is(s, b"down") {
+    if is(rest, b"down") {
         return Read::Event(Event::Down);
     }
-    if is(s, b"poll") {
+    if is(rest, b"poll") {
         return Read::Event(Event::Poll);
     }
-    if is(s, b"sweep") {
+    if is(rest, b"sweep") {
         return Read::Event(Event::Sweep);
     }
-    if is(s, b"off") {
+    if is(rest, b"off") {
         return Read::Event(Event::Off);
     }
     Read::Bad
 }
 
-fn read_start(s: &[u8]) -> Read
-    ensures { λ r. ⌜ (r ≡ startOf (fields (now (s .entry)))) × Silent r ⌝ }
+fn read_start(rest: &[u8]) -> Read
+    ensures { λ r. ⌜ (r ≡ startOf (fields (now (rest .entry)))) × Silent r ⌝ }
 {
-    match read_address(s) {
-        Address::Value(a) => Read::Event(Event::Start(a)),
+    match read_address(rest) {
+        Address::Value(addr) => Read::Event(Event::Start(addr)),
         Address::Bad => Read::Bad,
     }
 }
 
-fn read_remove(s: &[u8]) -> Read
-    ensures { λ r. ⌜ (r ≡ removeOf (fields (now (s .entry)))) × Silent r ⌝ }
+fn read_remove(rest: &[u8]) -> Read
+    ensures { λ r. ⌜ (r ≡ removeOf (fields (now (rest .entry)))) × Silent r ⌝ }
 {
-    match read_address(s) {
-        Address::Value(a) => Read::Event(Event::Remove(a)),
+    match read_address(rest) {
+        Address::Value(addr) => Read::Event(Event::Remove(addr)),
         Address::Bad => Read::Bad,
     }
 }
 
-fn read_fill(s: &[u8]) -> Read
-    ensures { λ r. ⌜ (r ≡ fillOf (fields (now (s .entry)))) × Silent r ⌝ }
+fn read_fill(rest: &[u8]) -> Read
+    ensures { λ r. ⌜ (r ≡ fillOf (fields (now (rest .entry)))) × Silent r ⌝ }
 {
-    let n = space(s);
-    if n == s.len() {
+    let end = space(rest);
+    if end == rest.len() {
         return Read::Bad;
     }
-    match read_address(&s[..n]) {
-        Address::Value(a) => match read_hardware(&s[n + 1..]) {
-            Hardware::Value(h) => Read::Event(Event::Fill(a, h)),
+    match read_address(&rest[..end]) {
+        Address::Value(addr) => match read_hardware(&rest[end + 1..]) {
+            Hardware::Value(hardware_addr) => Read::Event(Event::Fill(addr, hardware_addr)),
             Hardware::Bad => Read::Bad,
         },
         Address::Bad => Read::Bad,
     }
 }
 
-fn read_ra(s: &[u8], message: &mut [u8]) -> Read
-    ensures { λ r. ⌜ RaTo (now (s .entry)) (now (message .entry)) r (now (message .exit)) ⌝ }
+fn read_ra(rest: &[u8], message: &mut [u8]) -> Read
+    ensures { λ r. ⌜ RaTo (now (rest .entry)) (now (message .entry)) r (now (message .exit)) ⌝ }
 {
-    let n = space(s);
-    if n == s.len() {
+    let end = space(rest);
+    if end == rest.len() {
         return Read::Bad;
     }
-    match read_address(&s[..n]) {
-        Address::Value(a) => match read_message(&s[n + 1..], message) {
-            Message::Bytes(k) => Read::Event(Event::Ra(a, k)),
+    match read_address(&rest[..end]) {
+        Address::Value(source) => match read_message(&rest[end + 1..], message) {
+            Message::Bytes(len) => Read::Event(Event::Ra(source, len)),
             Message::Bad => Read::Bad,
         },
         Address::Bad => Read::Bad,
@@ -112,26 +112,26 @@ fn read_ra(s: &[u8], message: &mut [u8]) -> Read
 }
 
 // What follows the time.
-fn read_event(s: &[u8], message: &mut [u8]) -> Read
-    ensures { λ r. ⌜ KindTo (now (s .entry)) (now (message .entry)) r (now (message .exit)) ⌝ }
+fn read_event(rest: &[u8], message: &mut [u8]) -> Read
+    ensures { λ r. ⌜ KindTo (now (rest .entry)) (now (message .entry)) r (now (message .exit)) ⌝ }
 {
-    let n = space(s);
-    if n == s.len() {
-        return read_word(s);
+    let end = space(rest);
+    if end == rest.len() {
+        return read_word(rest);
     }
-    let w = &s[..n];
-    let t = &s[n + 1..];
-    if is(w, b"ra") {
-        return read_ra(t, message);
+    let word = &rest[..end];
+    let fields = &rest[end + 1..];
+    if is(word, b"ra") {
+        return read_ra(fields, message);
     }
-    if is(w, b"start") {
-        return read_start(t);
+    if is(word, b"start") {
+        return read_start(fields);
     }
-    if is(w, b"fill") {
-        return read_fill(t);
+    if is(word, b"fill") {
+        return read_fill(fields);
     }
-    if is(w, b"remove") {
-        return read_remove(t);
+    if is(word, b"remove") {
+        return read_remove(fields);
     }
     Read::Bad
 }
@@ -140,13 +140,13 @@ fn read_event(s: &[u8], message: &mut [u8]) -> Read
 pub fn parse_event(line: &[u8], message: &mut [u8]) -> Parsed
     ensures { λ r. ⌜ ParsedTo (now (line .entry)) (now (message .entry)) r (now (message .exit)) ⌝ }
 {
-    let n = space(line);
-    if n == line.len() {
+    let end = space(line);
+    if end == line.len() {
         return Parsed::Bad;
     }
-    match read_number(&line[..n]) {
-        Number::Value(t) => match read_event(&line[n + 1..], message) {
-            Read::Event(e) => Parsed::At(t, e),
+    match read_number(&line[..end]) {
+        Number::Value(time) => match read_event(&line[end + 1..], message) {
+            Read::Event(event) => Parsed::At(time, event),
             Read::Bad => Parsed::Bad,
         },
         Number::Bad => Parsed::Bad,

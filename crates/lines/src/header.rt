@@ -12,6 +12,8 @@ use text::scan::is;
 use text::scan::space;
 use wire::ipv6::Ipv6Cidr;
 
+const BYTE_MAX: u64 = 255;
+
 pub enum Static {
     Value(Ipv6Cidr),
     Bad,
@@ -21,27 +23,27 @@ pub enum Static {
 pub fn mac(line: &[u8]) -> Hardware
     ensures { λ r. ⌜ r ≡ macOf (fields (now (line .entry))) ⌝ }
 {
-    let n = space(line);
-    if n == line.len() {
+    let end = space(line);
+    if end == line.len() {
         return Hardware::Bad;
     }
-    if is(&line[..n], b"mac") {
-        read_hardware(&line[n + 1..])
+    if is(&line[..end], b"mac") {
+        read_hardware(&line[end + 1..])
     } else {
         Hardware::Bad
     }
 }
 
 // `WORD N`
-pub fn counted(line: &[u8], w: &[u8]) -> Number
-    ensures { λ r. ⌜ r ≡ countOf (now (w .entry)) (fields (now (line .entry))) ⌝ }
+pub fn counted(line: &[u8], word: &[u8]) -> Number
+    ensures { λ r. ⌜ r ≡ countOf (now (word .entry)) (fields (now (line .entry))) ⌝ }
 {
-    let n = space(line);
-    if n == line.len() {
+    let end = space(line);
+    if end == line.len() {
         return Number::Bad;
     }
-    if is(&line[..n], w) {
-        read_number(&line[n + 1..])
+    if is(&line[..end], word) {
+        read_number(&line[end + 1..])
     } else {
         Number::Bad
     }
@@ -51,19 +53,19 @@ pub fn counted(line: &[u8], w: &[u8]) -> Number
 pub fn address_line(line: &[u8]) -> Static
     ensures { λ r. ⌜ r ≡ staticOf (fields (now (line .entry))) ⌝ }
 {
-    let n = space(line);
-    if n == line.len() {
+    let end = space(line);
+    if end == line.len() {
         return Static::Bad;
     }
-    match read_address(&line[..n]) {
-        Address::Value(a) => match read_number(&line[n + 1..]) {
-            Number::Value(k) => {
-                if k > 255 {
+    match read_address(&line[..end]) {
+        Address::Value(addr) => match read_number(&line[end + 1..]) {
+            Number::Value(prefix_len) => {
+                if prefix_len > BYTE_MAX {
                     return Static::Bad;
                 }
                 Static::Value(Ipv6Cidr {
-                    address: a,
-                    prefix_len: k as u8,
+                    address: addr,
+                    prefix_len: prefix_len as u8,
                 })
             }
             Number::Bad => Static::Bad,

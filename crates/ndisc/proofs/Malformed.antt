@@ -1,13 +1,14 @@
 -- When an option is malformed, and what a well-formed one has. Assumes nothing.
-use Prim.Native.Nat.{ℕ, _*_, _<_, _≤_}
+use Prim.Native.Nat.{ℕ, _+_, _-_, _*_, _<_, _≤_}
 use borrow.Author.Tests.{lt-ltb, le-ltb, ltb-false, eq-eqb, ne-eqb, eqb-true, eqb-false}
 use lib.Dec.{ltb, eqb}
-use lib.ListN.{length}
+use denote.Ref.{RefT, ptr, now}
+use lib.ListN.{length, take, drop}
 use mathlib.Core.Bool.{Bool, true, false, cond, _&&_, _||_, or-true}
-use mathlib.Core.List.{List}
-use mathlib.Core.Path.{_≡_, refl}
+use mathlib.Core.List.{List, []}
+use mathlib.Core.Path.{_≡_, refl, ap, _∙_}
 use native.Mathlib.Omega.{arith}
-use Rattle.ndisc.specs.OptionCalls.{least}
+use Rattle.ndisc.specs.OptionCalls.{leastLen, Measured, Checks, HandsBack}
 use Rattle.ndisc.specs.Rfc4861Options.{byte, malformed, unitsOf, optionOf, checkedOf}
 use Rattle.ndisc.specs.declared.ndiscoption.Checked.the-variants.{Refused, Well}
 use Rattle.ndisc.specs.declared.ndiscoption.NdiscOption.{NdiscOption}
@@ -28,7 +29,7 @@ cut-off s h = simp (lt-ltb (length s) (8 * byte s 1) h, or-true)
 abbrev small : Bool → Bool → ℕ → Bool
 small a b n = (a && ltb (8 * n) 32) || (b && ltb (8 * n) 48)
 
-few : (a b : Bool) (n : ℕ) → n < cond a 4 (cond b 6 1) → (eqb n 0 || small a b n) ≡ true
+few : (a b : Bool) (n : ℕ) → 8 * n < cond a 32 (cond b 48 8) → (eqb n 0 || small a b n) ≡ true
 few true b n h = simp (lt-ltb (8 * n) 32 (omega arith), or-true)
 few false true n h = simp (lt-ltb (8 * n) 48 (omega arith), or-true)
 few false false n h = simp (eq-eqb n 0 (omega arith))
@@ -39,12 +40,12 @@ any false true r t e = refl
 any false false true t e = refl
 any false false false t e = e
 
-pub too-few : (s : List ℕ) → byte s 1 < least (byte s 0) → malformed s ≡ true
+pub too-few : (s : List ℕ) → 8 * byte s 1 < leastLen (byte s 0) → malformed s ≡ true
 too-few s h =
     any (ltb (length s) 8) (eqb (byte s 1) 0) (ltb (length s) (8 * byte s 1)) _
     (few (eqb (byte s 0) 3) (eqb (byte s 0) 4) (byte s 1) h)
 
-enough : (a b : Bool) (n : ℕ) → (a && b) ≡ false → cond a 4 (cond b 6 1) ≤ n → (eqb n 0 || small a b n) ≡ false
+enough : (a b : Bool) (n : ℕ) → (a && b) ≡ false → cond a 32 (cond b 48 8) ≤ 8 * n → (eqb n 0 || small a b n) ≡ false
 enough true true n e h = let z : _≡_ {A = ℕ} 0 1 = cc in absurd (omega arith)
 enough true false n e h = simp (ne-eqb n 0 (λ z. omega arith), le-ltb (8 * n) 32 (omega arith))
 enough false true n e h = simp (ne-eqb n 0 (λ z. omega arith), le-ltb (8 * n) 48 (omega arith))
@@ -59,7 +60,7 @@ all : (p q r t : Bool) → p ≡ false → r ≡ false → (q || t) ≡ false �
 all p true r t a b e = let z : _≡_ {A = ℕ} 0 1 = cc in absurd (omega arith)
 all p false r t a b e = simp (a, b, e)
 
-pub well : (s : List ℕ) → 8 ≤ length s → 8 * byte s 1 ≤ length s → least (byte s 0) ≤ byte s 1 → malformed s ≡ false
+pub well : (s : List ℕ) → 8 ≤ length s → 8 * byte s 1 ≤ length s → leastLen (byte s 0) ≤ 8 * byte s 1 → malformed s ≡ false
 well s h k l =
     all (ltb (length s) 8) (eqb (byte s 1) 0) (ltb (length s) (8 * byte s 1)) _
     (le-ltb (length s) 8 h) (le-ltb (length s) (8 * byte s 1) k)
@@ -126,3 +127,22 @@ well-means s o n e =
     let u = f .2 in
     let h = has s (f .0) in
     record { well = f .0; option = f .1; units = u; some = rw u at (h .some); whole = rw u at (h .whole) }
+
+-- a well-formed option's answer
+pub well-checks : (s : List ℕ) (n : ℕ) (o : NdiscOption) → Measured s n → (n ≡ 0 → ⊥) → o ≡ optionOf s → Checks s (Well o n)
+well-checks s n o m h e =
+    let w = some-well s (λ z. h (m .is ∙ z)) in
+    record { is = simp (w, e, m .is); number = simp w; option = simp (w, e); whole = m .whole }
+
+-- the part that is handed back: none of a malformed option, and else from byte 2 on
+pub hands-none : (s r : RefT (List ℕ)) → malformed (now s) ≡ true → now r ≡ [] → ptr r ≡ ptr s → HandsBack s r
+hands-none s r m e p =
+    let o : ptr s .1 ≡ ptr s .1 + 0 = omega arith in
+    record { is = simp m e; at = simp m (p ∙ (λ i. (ptr s .0, o i))) }
+
+pub hands-data : (s r : RefT (List ℕ)) (n : ℕ) → Measured (now s) n → (n ≡ 0 → ⊥) → now r ≡ take (8 * n - 2) (drop 2 (now s))
+    → ptr r ≡ (ptr s .0, 2 + ptr s .1) → HandsBack s r
+hands-data s r n m h e p =
+    let w = some-well (now s) (λ z. h (m .is ∙ z)) in
+    let o : 2 + ptr s .1 ≡ ptr s .1 + 2 = omega arith in
+    record { is = e ∙ ap (λ (k : ℕ). take (8 * k - 2) (drop 2 (now s))) (m .is); at = simp w (p ∙ (λ i. (ptr s .0, o i))) }

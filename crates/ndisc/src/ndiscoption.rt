@@ -1,13 +1,13 @@
 // Neighbour-discovery options (RFC 4861, 4.6): checked, read, written at a place of a message, and walked.
 // `s` is always the part of the message that begins at the option. A length is in units of 8 bytes.
 ghost use mathlib.Core.Path.{_≡_};
-ghost use Prim.Native.Nat.{_+_, _<_, _≤_};
+ghost use Prim.Native.Nat.{_+_, _-_, _<_, _≤_};
 ghost use lib.ListN.{length};
 ghost use lib.Seq.{sets};
 ghost use Rattle.wire.specs.Rfc2464.{hardwareAt};
 ghost use Rattle.wire.specs.Rfc4291.{addressAt, addressBytes};
-ghost use Rattle.ndisc.specs.Rfc4861Options.{byte, flag, prefixAt, optionOf, dataOf};
-ghost use Rattle.ndisc.specs.OptionCalls.{least, Measured, Checks, linkLayerBytes, prefixBytes, mtuBytes, Wrote};
+ghost use Rattle.ndisc.specs.Rfc4861Options.{flag, prefixAt};
+ghost use Rattle.ndisc.specs.OptionCalls.{leastLen, Measured, Checks, HandsBack, linkLayerBytes, prefixBytes, mtuBytes, Wrote};
 ghost use Rattle.ndisc.specs.OptionWalk.{Steps, Walks};
 use crate::bit;
 use crate::put_four;
@@ -21,6 +21,71 @@ use crate::u64_at;
 use wire::error::Refusal;
 use wire::ethernet::HardwareAddress;
 use wire::ipv6::Ipv6Addr;
+
+// Types of option.
+mod option_type {
+    pub const SOURCE_LINK_LAYER_ADDR: u8 = 1;
+
+    pub const TARGET_LINK_LAYER_ADDR: u8 = 2;
+
+    pub const PREFIX_INFORMATION: u8 = 3;
+
+    pub const REDIRECTED_HEADER: u8 = 4;
+
+    pub const MTU: u8 = 5;
+}
+
+// Where an option's fields begin.
+mod field {
+    pub const TYPE: usize = 0;
+
+    pub const LENGTH: usize = 1;
+
+    pub const DATA: usize = 2;
+
+    pub const LINK_LAYER_ADDR: usize = 2;
+
+    pub const LINK_LAYER_ADDR_LO: usize = 4;
+
+    pub const PREFIX_LEN: usize = 2;
+
+    pub const FLAGS: usize = 3;
+
+    pub const VALID_LT: usize = 4;
+
+    pub const PREF_LT: usize = 8;
+
+    pub const PREF_RESERVED: usize = 12;
+
+    pub const PREFIX: usize = 16;
+
+    pub const MTU: usize = 4;
+}
+
+// What a length counts, in bytes.
+const UNIT: usize = 8;
+
+// The fewest bytes of an option, of one with prefix information, and of a redirected header.
+const MIN_OPT_LEN: usize = 8;
+
+const PREFIX_INFORMATION_LEN: usize = 32;
+
+const REDIR_MIN_SZ: usize = 48;
+
+// The bytes of the other options that are written.
+const LINK_LAYER_ADDR_LEN: usize = 8;
+
+const MTU_LEN: usize = 8;
+
+// Their lengths in units, and that of prefix information.
+const ONE_UNIT: u8 = 1;
+
+const PREFIX_INFORMATION_UNITS: u8 = 4;
+
+// Flags of prefix information.
+const ON_LINK: u8 = 0x80;
+
+const ADDRCONF: u8 = 0x40;
 
 // Lifetimes are in seconds.
 pub struct PrefixInformation {
@@ -64,38 +129,39 @@ pub enum Next {
     Option { option: NdiscOption, next: usize },
 }
 
-fn wide(x: u8) -> usize
-    ensures { λ r. ⌜ (r ≡ x) × (r < 256) ⌝ }
+fn to_usize(byte: u8) -> usize
+    ensures { λ r. ⌜ (r ≡ byte) × (r < 256) ⌝ }
 {
-    x as usize
+    byte as usize
 }
 
-// The fewest units that an option of a type has.
-fn least(kind: u8) -> usize
-    ensures { λ r. ⌜ r ≡ least kind ⌝ }
+// The fewest bytes that an option of a type has.
+fn least_len(kind: u8) -> usize
+    ensures { λ r. ⌜ r ≡ leastLen kind ⌝ }
 {
     match kind {
-        3 => 4,
-        4 => 6,
-        _ => 1,
+        option_type::PREFIX_INFORMATION => PREFIX_INFORMATION_LEN,
+        option_type::REDIRECTED_HEADER => REDIR_MIN_SZ,
+        _ => MIN_OPT_LEN,
     }
 }
 
 // How many units the option has; 0 if it is malformed.
-pub fn units(s: &[u8]) -> usize
+fn units(s: &[u8]) -> usize
     ensures { λ r. ⌜ Measured (now (s .entry)) r ⌝ }
 {
-    if s.len() < 8 {
+    if s.len() < MIN_OPT_LEN {
         return 0;
     }
-    let n = wide(s[1]);
-    if s.len() < 8 * n {
+    let units = to_usize(s[field::LENGTH]);
+    let len = UNIT * units;
+    if s.len() < len {
         return 0;
     }
-    if n < least(s[0]) {
+    if len < least_len(s[field::TYPE]) {
         return 0;
     }
-    n
+    units
 }
 
 fn link_layer_addr(s: &[u8]) -> HardwareAddress
@@ -103,8 +169,8 @@ fn link_layer_addr(s: &[u8]) -> HardwareAddress
     ensures { λ r. ⌜ r ≡ hardwareAt (now (s .entry)) 2 ⌝ }
 {
     HardwareAddress {
-        hi: u16_at(s, 2),
-        lo: u32_at(s, 4),
+        hi: u16_at(s, field::LINK_LAYER_ADDR),
+        lo: u32_at(s, field::LINK_LAYER_ADDR_LO),
     }
 }
 
@@ -123,155 +189,179 @@ fn prefix_information(s: &[u8]) -> PrefixInformation
     ensures { λ r. ⌜ r ≡ prefixAt (now (s .entry)) ⌝ }
 {
     PrefixInformation {
-        prefix_len: s[2],
-        on_link: bit(0x80, s[3]),
-        addrconf: bit(0x40, s[3]),
-        valid_lifetime: u32_at(s, 4),
-        preferred_lifetime: u32_at(s, 8),
-        prefix: address_at(s, 16),
+        prefix_len: s[field::PREFIX_LEN],
+        on_link: bit(ON_LINK, s[field::FLAGS]),
+        addrconf: bit(ADDRCONF, s[field::FLAGS]),
+        valid_lifetime: u32_at(s, field::VALID_LT),
+        preferred_lifetime: u32_at(s, field::PREF_LT),
+        prefix: address_at(s, field::PREFIX),
     }
 }
 
-// What a well-formed option holds.
-fn option_of(s: &[u8]) -> NdiscOption
-    requires { ⌜ 8 ≤ length (now s) ⌝ }
-    requires { ⌜ (byte (now s) 0 ≡ 3 → 32 ≤ length (now s)) ⌝ }
-    ensures { λ r. ⌜ r ≡ optionOf (now (s .entry)) ⌝ }
-{
-    let kind = s[0];
-    match kind {
-        1 => NdiscOption::SourceLinkLayerAddr(link_layer_addr(s)),
-        2 => NdiscOption::TargetLinkLayerAddr(link_layer_addr(s)),
-        3 => NdiscOption::PrefixInformation(prefix_information(s)),
-        4 => NdiscOption::RedirectedHeader,
-        5 => NdiscOption::Mtu(u32_at(s, 4)),
-        _ => NdiscOption::Unknown(kind),
-    }
-}
-
+// Whether the option is well formed, and what it holds. Each arm returns: where they meet before the answer is copied out, each pays
+// for the others.
 pub fn check_option(s: &[u8]) -> Checked
     ensures { λ r. ⌜ Checks (now (s .entry)) r ⌝ }
 {
-    let n = units(s);
-    if n == 0 {
+    let units = units(s);
+    if units == 0 {
         return Checked::Refused(Refusal::Malformed);
     }
-    Checked::Well {
-        option: option_of(s),
-        units: n,
+    let kind = s[field::TYPE];
+    match kind {
+        option_type::SOURCE_LINK_LAYER_ADDR => {
+            return Checked::Well {
+                option: NdiscOption::SourceLinkLayerAddr(link_layer_addr(s)),
+                units,
+            };
+        }
+        option_type::TARGET_LINK_LAYER_ADDR => {
+            return Checked::Well {
+                option: NdiscOption::TargetLinkLayerAddr(link_layer_addr(s)),
+                units,
+            };
+        }
+        option_type::PREFIX_INFORMATION => {
+            return Checked::Well {
+                option: NdiscOption::PrefixInformation(prefix_information(s)),
+                units,
+            };
+        }
+        option_type::REDIRECTED_HEADER => {
+            return Checked::Well {
+                option: NdiscOption::RedirectedHeader,
+                units,
+            };
+        }
+        option_type::MTU => {
+            return Checked::Well {
+                option: NdiscOption::Mtu(u32_at(s, field::MTU)),
+                units,
+            };
+        }
+        _ => {
+            return Checked::Well {
+                option: NdiscOption::Unknown(kind),
+                units,
+            };
+        }
     }
 }
 
 // The option's data, as a part of `s`; empty if the option is malformed.
 pub fn data(s: &[u8]) -> &[u8]
-    ensures { λ r. ⌜ now r ≡ dataOf (now (s .entry)) ⌝ }
+    ensures { λ r. ⌜ HandsBack (s .entry) r ⌝ }
 {
-    let n = units(s);
-    if n == 0 {
+    let units = units(s);
+    if units == 0 {
         return &s[..0];
     }
-    &s[2..8 * n]
+    &s[field::DATA..UNIT * units]
 }
 
 // The leaves fill the first bytes of the part that they are lent.
-fn fill_link_layer_addr(s: &mut [u8], kind: u8, a: HardwareAddress)
+fn fill_link_layer_addr(s: &mut [u8], kind: u8, addr: HardwareAddress)
     requires { ⌜ 8 ≤ length (now s) ⌝ }
-    ensures { λ _. ⌜ now (s .exit) ≡ sets (now (s .entry)) 0 (linkLayerBytes kind a) ⌝ }
+    ensures { λ _. ⌜ now (s .exit) ≡ sets (now (s .entry)) 0 (linkLayerBytes kind addr) ⌝ }
 {
-    put8(s, 0, kind);
-    put8(s, 1, 1);
-    put16(s, 2, a.hi);
-    put32(s, 4, a.lo);
+    put8(s, field::TYPE, kind);
+    put8(s, field::LENGTH, ONE_UNIT);
+    put16(s, field::LINK_LAYER_ADDR, addr.hi);
+    put32(s, field::LINK_LAYER_ADDR_LO, addr.lo);
 }
 
 fn fill_mtu(s: &mut [u8], mtu: u32)
     requires { ⌜ 8 ≤ length (now s) ⌝ }
     ensures { λ _. ⌜ now (s .exit) ≡ sets (now (s .entry)) 0 (mtuBytes mtu) ⌝ }
 {
-    put_four(s, 5, 1, 0, 0);
-    put32(s, 4, mtu);
+    put_four(s, option_type::MTU, ONE_UNIT, 0, 0);
+    put32(s, field::MTU, mtu);
 }
 
-fn put_address(s: &mut [u8], i: usize, a: Ipv6Addr)
+fn put_address(s: &mut [u8], i: usize, addr: Ipv6Addr)
     requires { ⌜ i + 16 ≤ length (now s) ⌝ }
-    ensures { λ _. ⌜ now (s .exit) ≡ sets (now (s .entry)) i (addressBytes a) ⌝ }
+    ensures { λ _. ⌜ now (s .exit) ≡ sets (now (s .entry)) i (addressBytes addr) ⌝ }
 {
-    put64(s, i, a.hi);
-    put64(s, i + 8, a.lo);
+    put64(s, i, addr.hi);
+    put64(s, i + 8, addr.lo);
 }
 
-fn flag(k: u8, b: bool) -> u8
-    ensures { λ r. ⌜ (r ≡ flag k b) × (r ≤ k) ⌝ }
+fn flag(mask: u8, set: bool) -> u8
+    ensures { λ r. ⌜ (r ≡ flag mask set) × (r ≤ mask) ⌝ }
 {
-    if b { k } else { 0 }
+    if set { mask } else { 0 }
 }
 
-fn fill_prefix_information(s: &mut [u8], p: PrefixInformation)
+fn fill_prefix_information(s: &mut [u8], info: PrefixInformation)
     requires { ⌜ 32 ≤ length (now s) ⌝ }
-    ensures { λ _. ⌜ now (s .exit) ≡ sets (now (s .entry)) 0 (prefixBytes p) ⌝ }
+    ensures { λ _. ⌜ now (s .exit) ≡ sets (now (s .entry)) 0 (prefixBytes info) ⌝ }
 {
-    let on_link = flag(0x80, p.on_link);
-    let addrconf = flag(0x40, p.addrconf);
-    put_four(s, 3, 4, p.prefix_len, on_link + addrconf);
-    put32(s, 4, p.valid_lifetime);
-    put32(s, 8, p.preferred_lifetime);
-    put32(s, 12, 0);
-    let prefix = p.prefix;
-    put_address(s, 16, prefix);
+    let on_link = flag(ON_LINK, info.on_link);
+    let addrconf = flag(ADDRCONF, info.addrconf);
+    put_four(
+        s,
+        option_type::PREFIX_INFORMATION,
+        PREFIX_INFORMATION_UNITS,
+        info.prefix_len,
+        on_link + addrconf,
+    );
+    put32(s, field::VALID_LT, info.valid_lifetime);
+    put32(s, field::PREF_LT, info.preferred_lifetime);
+    put32(s, field::PREF_RESERVED, 0);
+    let prefix = info.prefix;
+    put_address(s, field::PREFIX, prefix);
 }
 
-fn write_link_layer_addr(msg: &mut [u8], at: usize, kind: u8, a: HardwareAddress) -> Written
-    ensures { λ r. ⌜ Wrote (now (msg .entry)) at (linkLayerBytes kind a) r (now (msg .exit)) ⌝ }
+// How many bytes a message of `len` has from place `at` on.
+fn room_at(len: usize, at: usize) -> usize
+    ensures { λ r. ⌜ r ≡ len - at ⌝ }
 {
-    if msg.len() < at {
+    if len < at { 0 } else { len - at }
+}
+
+fn write_link_layer_addr(msg: &mut [u8], at: usize, kind: u8, addr: HardwareAddress) -> Written
+    ensures { λ r. ⌜ Wrote (now (msg .entry)) at (linkLayerBytes kind addr) r (now (msg .exit)) ⌝ }
+{
+    if room_at(msg.len(), at) < LINK_LAYER_ADDR_LEN {
         return Written::Refused(Refusal::NoRoom);
     }
-    if msg.len() - at < 8 {
-        return Written::Refused(Refusal::NoRoom);
-    }
-    fill_link_layer_addr(&mut msg[at..], kind, a);
+    fill_link_layer_addr(&mut msg[at..], kind, addr);
     Written::Done
 }
 
-pub fn write_source_link_layer_addr(msg: &mut [u8], at: usize, a: HardwareAddress) -> Written
-    ensures { λ r. ⌜ Wrote (now (msg .entry)) at (linkLayerBytes 1 a) r (now (msg .exit)) ⌝ }
+pub fn write_source_link_layer_addr(msg: &mut [u8], at: usize, addr: HardwareAddress) -> Written
+    ensures { λ r. ⌜ Wrote (now (msg .entry)) at (linkLayerBytes 1 addr) r (now (msg .exit)) ⌝ }
 {
-    write_link_layer_addr(msg, at, 1, a)
+    write_link_layer_addr(msg, at, option_type::SOURCE_LINK_LAYER_ADDR, addr)
 }
 
-pub fn write_target_link_layer_addr(msg: &mut [u8], at: usize, a: HardwareAddress) -> Written
-    ensures { λ r. ⌜ Wrote (now (msg .entry)) at (linkLayerBytes 2 a) r (now (msg .exit)) ⌝ }
+pub fn write_target_link_layer_addr(msg: &mut [u8], at: usize, addr: HardwareAddress) -> Written
+    ensures { λ r. ⌜ Wrote (now (msg .entry)) at (linkLayerBytes 2 addr) r (now (msg .exit)) ⌝ }
 {
-    write_link_layer_addr(msg, at, 2, a)
+    write_link_layer_addr(msg, at, option_type::TARGET_LINK_LAYER_ADDR, addr)
 }
 
-pub fn write_prefix_information(msg: &mut [u8], at: usize, p: PrefixInformation) -> Written
-    ensures { λ r. ⌜ Wrote (now (msg .entry)) at (prefixBytes p) r (now (msg .exit)) ⌝ }
+pub fn write_prefix_information(msg: &mut [u8], at: usize, info: PrefixInformation) -> Written
+    ensures { λ r. ⌜ Wrote (now (msg .entry)) at (prefixBytes info) r (now (msg .exit)) ⌝ }
 {
-    if msg.len() < at {
+    if room_at(msg.len(), at) < PREFIX_INFORMATION_LEN {
         return Written::Refused(Refusal::NoRoom);
     }
-    if msg.len() - at < 32 {
-        return Written::Refused(Refusal::NoRoom);
-    }
-    fill_prefix_information(&mut msg[at..], p);
+    fill_prefix_information(&mut msg[at..], info);
     Written::Done
 }
 
 pub fn write_mtu(msg: &mut [u8], at: usize, mtu: u32) -> Written
     ensures { λ r. ⌜ Wrote (now (msg .entry)) at (mtuBytes mtu) r (now (msg .exit)) ⌝ }
 {
-    if msg.len() < at {
-        return Written::Refused(Refusal::NoRoom);
-    }
-    if msg.len() - at < 8 {
+    if room_at(msg.len(), at) < MTU_LEN {
         return Written::Refused(Refusal::NoRoom);
     }
     fill_mtu(&mut msg[at..], mtu);
     Written::Done
 }
 
-// What stands at a place: every loop over the options is made of this step.
+// What stands at a place.
 pub fn next_option(msg: &[u8], at: usize) -> Next
     ensures { λ r. ⌜ Steps (now (msg .entry)) at r ⌝ }
 {
@@ -282,7 +372,7 @@ pub fn next_option(msg: &[u8], at: usize) -> Next
         Checked::Refused(_) => Next::Malformed,
         Checked::Well { option, units } => Next::Option {
             option,
-            next: at + 8 * units,
+            next: at + UNIT * units,
         },
     }
 }
@@ -296,10 +386,9 @@ pub fn check_options(msg: &[u8], from: usize) -> Walk
         if msg.len() <= at {
             break Walk::Clean;
         }
-        let n = units(&msg[at..]);
-        if n == 0 {
-            break Walk::MalformedAt(at);
+        match check_option(&msg[at..]) {
+            Checked::Refused(_) => break Walk::MalformedAt(at),
+            Checked::Well { option: _, units } => at += UNIT * units,
         }
-        at += 8 * n;
     }
 }

@@ -5,12 +5,13 @@ use lib.Dec.{ltb, eqb}
 use lib.ListN.{length, take, drop, set, getD, length-take, length-set, length-append, drop-of-length-le}
 use lib.Seq.{drop-cons, take-all}
 use mathlib.Core.Bool.{Bool, true, false, cond, _&&_, _||_}
-use mathlib.Core.List.{List, [], _∷_, _++_}
+use mathlib.Core.List.{List, [], _∷_, _++_, map}
 use mathlib.Core.Path.{_≡_, refl, sym, ap, ap₂, subst, _∙_}
 use native.Mathlib.Numerals.{add-one}
 use native.Mathlib.Omega.{arith}
 use Rattle.neighbor.specs.Answers.{answerNumber, answerFound, gotNumber, gotShown, answerOf, sendsTo, listed}
-use Rattle.neighbor.specs.CacheCalls.{entries, withEntries, blank, key, keyCheck, ifaceCheck, unless, answerIn, lookupBy, sentTo, LookedUp, changeBy, ChangedTo, shown, getBy, alone, GotBy, removeBy, RemovedTo, atIndex}
+use Rattle.neighbor.specs.CacheCalls.{entries, withEntries, blank, key, unless, answerIn, lookupBy, sentTo, LookedUp, putIn, changedTo, changeBy, ChangedTo, shown, getBy, alone, GotBy, removeBy, RemovedTo, ListedAt}
+use Rattle.wire.specs.Refusals.{keyCheck, ifaceCheck, checkNumber, outcomeNumber}
 use Rattle.neighbor.specs.NeighborRules.{Table, Key, isKey, entry, find, kind, time, before, victimFrom, victim, insertState, removeKey}
 use Rattle.neighbor.specs.declared.Answer.the-variants.{Refused as Denied, NotFound}
 use Rattle.neighbor.specs.declared.Answer.{Answer}
@@ -20,14 +21,13 @@ use Rattle.neighbor.specs.declared.Got.the-variants.{Refused as Rejected
 use Rattle.neighbor.specs.declared.Got.{Got}
 use Rattle.neighbor.specs.declared.Neighbor.{Neighbor}
 use Rattle.neighbor.specs.declared.NeighborCache.{NeighborCache}
-use Rattle.neighbor.specs.declared.Outcome.the-variants.{Refused, Done}
+use Rattle.wire.specs.declared.error.Outcome.the-variants.{Refused, Done}
 use Rattle.neighbor.specs.declared.Removed.{Removed}
 use Rattle.neighbor.specs.declared.State.the-variants.{Started, Incomplete, Reachable, Stale}
 use Rattle.neighbor.specs.declared.State.{State}
-use Rattle.table.proofs.Laws.{Made, entry-at, over, at-end, moved-in, moved-count, counted}
+use Rattle.table.proofs.Laws.{Made, entry-at, entries-from, over, at-end, moved-in, moved-count, counted}
 use Rattle.table.proofs.Placing.{Placing, placing, place-next, placed, place-none}
-use Rattle.table.specs.Table.{filled, firstFrom, firstOf, swapRemove, kept}
-use Rattle.wire.specs.Refusals.{checkNumber}
+use Rattle.table.specs.Table.{filled, firstFrom, firstOf, swapRemove}
 use Rattle.wire.specs.declared.error.Check.the-variants.{Fine, Refused as Fails}
 use Rattle.wire.specs.declared.error.Check.{Check}
 use Rattle.wire.specs.declared.error.Refusal.{Refusal}
@@ -153,26 +153,44 @@ module _ (c : NeighborCache) (k i : ℕ) (full : length (c .slots) ≡ 16) (e : 
   count : k ≡ length (entries c)
   count = counted (c .slots) (c .len) 16 k full e
 
-  pub at-entry : (n : Neighbor) → i < k → n ≡ listed (getD (c .slots) i blank) → Is n ≡ atIndex c i
+  -- the one entry from i on that a listing shows
+  shows-from : {es : Table} → drop i (entries c) ≡ es → map listed (take 1 es) ≡ map listed (take 1 (drop i (entries c)))
+  shows-from e = ap (λ (es : Table). map listed (take 1 es)) (sym e)
+
+  pub at-entry : (n : Neighbor) → i < k → n ≡ listed (getD (c .slots) i blank) → ListedAt c i (Is n)
   at-entry n h q =
       let l : i < length (entries c) = omega (arith, count) in
-      ap Is (q ∙ ap listed (sym (entry-at blank (c .slots) (c .len) i l))) ∙ simp (lt-ltb i (length (entries c)) l)
+      record {
+        is = ap Is (q ∙ ap listed (sym (entry-at blank (c .slots) (c .len) i l))) ∙ simp (lt-ltb i (length (entries c)) l);
+        number = refl;
+        shows = ap (λ (x : Neighbor). x ∷ []) q ∙ shows-from (entries-from blank (c .slots) (c .len) i l);
+      }
 
-  pub at-none : k ≤ i → Nothing ≡ atIndex c i
-  at-none h = let l : length (entries c) ≤ i = omega (arith, count) in simp (le-ltb i (length (entries c)) l)
+  pub at-none : k ≤ i → ListedAt c i Nothing
+  at-none h =
+      let l : length (entries c) ≤ i = omega (arith, count) in
+      record {
+        is = simp (le-ltb i (length (entries c)) l);
+        number = refl;
+        shows = shows-from (drop-of-length-le (entries c) l);
+      }
 
 -- Calls that change the entries
 
-module _ (check : Check) (c : NeighborCache) (xs : Table) where
-  pub change-refused : (why : Refusal) → check ≡ Fails why → ChangedTo check c xs (record { cache = c; outcome = Refused why })
-  change-refused why p = record { is = ap (λ (x : Check). changeBy x c xs) (sym p); number = ap checkNumber (sym p) }
+pub change-refused : (check : Check) (c c' : NeighborCache) (why : Refusal) → check ≡ Fails why → ChangedTo check c c' (record { cache = c; outcome = Refused why })
+change-refused check c c' why p = record { is = ap (λ (x : Check). changeBy x c c') (sym p); number = ap checkNumber (sym p) }
 
-  pub changed : (s : List Entry) (n : ℕ) → check ≡ Fine → Made (c .slots) xs s n
-      → ChangedTo check c xs (record { cache = record { slots = s; len = n }; outcome = Done })
-  changed s n p m =
-      let e : _≡_ {A = Changed} (record { cache = record { slots = s; len = n }; outcome = Done }) (record { cache = withEntries c xs; outcome = Done }) =
-      ap₂ (λ (a : List Entry) (b : ℕ). record { cache = record { slots = a; len = b }; outcome = Done }) (m .slots) (m .count) in
-      record { is = e ∙ ap (λ (x : Check). changeBy x c xs) (sym p); number = ap checkNumber (sym p) }
+pub change-done : (check : Check) (c c' : NeighborCache) {r : Changed} → check ≡ Fine → r ≡ changedTo c' → ChangedTo check c c' r
+change-done check c c' p e =
+    record {
+      is = e ∙ ap (λ (x : Check). changeBy x c c') (sym p);
+      number = ap (λ (x : Changed). outcomeNumber (x .outcome)) e ∙ ap checkNumber (sym p);
+    }
+
+-- the cache of these entries, from its slots and its count
+pub changed-to : (c : NeighborCache) (xs : Table) {s : List Entry} {n : ℕ} → Made (c .slots) xs s n
+    → _≡_ {A = Changed} (record { cache = record { slots = s; len = n }; outcome = Done }) (changedTo (withEntries c xs))
+changed-to c xs m = ap₂ (λ (a : List Entry) (b : ℕ). record { cache = record { slots = a; len = b }; outcome = Done }) (m .slots) (m .count)
 
 -- The loop that looks for a key: `c` is the cache `c₀` still, and none of its first `i` entries has the key
 
@@ -232,26 +250,22 @@ module _ (key : Key) (st : State) {s : List Entry} {n k i : ℕ} (inv : Placing 
         count = e ∙ (sym (length-set (take n s) v (entry key st)) ∙ ap length w);
       }
 
--- what the call leaves: the state over the key's entry, at the end, or over the victim
-module _ {check : Check} {k : Key} {c₀ c : NeighborCache} {n i : ℕ} {st st′ : State} (q : st ≡ st′) (p : check ≡ Fine)
-    (inv : Looking k c₀ c n i) where
+-- the state stands over the key's entry, at the end, or over the victim
+module _ {k : Key} {c₀ c : NeighborCache} {n i : ℕ} (st : State) (inv : Looking k c₀ c n i) where
   abbrev Put : List Entry → ℕ → Type 0
-  Put s m = ChangedTo check c₀ (insertState k st′ (entries c₀)) (record { cache = record { slots = s; len = m }; outcome = Done })
+  Put s m = _≡_ {A = Changed} (record { cache = record { slots = s; len = m }; outcome = Done }) (changedTo (putIn c₀ k st))
 
-  put : (s : List Entry) (m : ℕ) → Made (c .slots) (insertState k st (entries c)) s m → Put s m
-  put s m d =
-      let r : Changed = record { cache = record { slots = s; len = m }; outcome = Done } in
-      subst (λ (x : NeighborCache). ChangedTo check x (insertState k st′ (entries x)) r) (inv .same)
-      (subst (λ (x : State). ChangedTo check c (insertState k x (entries c)) r) q (changed check c (insertState k st (entries c)) s m p d))
+  put : {s : List Entry} {m : ℕ} → Made (c .slots) (insertState k st (entries c)) s m → Put s m
+  put d = changed-to c (insertState k st (entries c)) d ∙ ap (λ (x : NeighborCache). changedTo (putIn x k st)) (inv .same)
 
   pub put-over : i < n → isKey k (getD (c .slots) i blank) ≡ true → Put (set (c .slots) i (entry k st)) n
-  put-over h g = put _ _ (over-key k st (inv .place) h g)
+  put-over h g = put (over-key k st (inv .place) h g)
 
   pub put-end : n ≤ i → n < 16 → Put (set (c .slots) n (entry k st)) (n + 1)
-  put-end h l = put _ _ (at-the-end k st (inv .place) h l)
+  put-end h l = put (at-the-end k st (inv .place) h l)
 
   pub put-victim : (v : ℕ) → n ≤ i → 16 ≤ n → v ≡ victim (c .slots) → v < 16 → Put (set (c .slots) v (entry k st)) n
-  put-victim v h l e lv = put _ _ (over-victim k st (inv .place) v h l e lv)
+  put-victim v h l e lv = put (over-victim k st (inv .place) v h l e lv)
 
 -- The loop that chooses the victim: of the first `i` entries the one at `index` goes first, and its rank is kept
 

@@ -9,7 +9,8 @@ use mathlib.Core.Path.{_≡_, refl, sym, subst}
 use native.Mathlib.Omega.{arith}
 use Rattle.neighbor.proofs.Keys.{sameKey-true}
 use Rattle.neighbor.proofs.OneKey.{Freed, put-own, put-other, remove-own, remove-other, clear-own, clear-other}
-use Rattle.neighbor.specs.CacheCalls.{entries, withEntries, blank, key, changeBy, ChangedTo, ifaceCheck, shown, removeBy}
+use Rattle.neighbor.specs.CacheCalls.{entries, withEntries, blank, key, changeBy, ChangedTo, shown, removeBy}
+use Rattle.wire.specs.Refusals.{ifaceCheck}
 use Rattle.neighbor.specs.Distinct.{Distinct, Once, KeysOnce}
 use Rattle.neighbor.specs.NeighborRules.{Table, Key, sameKey, find, insertState, removeKey, clearIface, entriesOf}
 use Rattle.neighbor.specs.declared.Changed.{Changed}
@@ -62,11 +63,11 @@ distinct-clear i t d = record { once = λ k. clear-few k i t d }
 pub entries-of : (c : NeighborCache) (xs : Table) → entries (withEntries c xs) ≡ xs
 entries-of c xs = take-append-seam xs (drop (length xs) (c .slots))
 
-changes : (check : Check) (c : NeighborCache) (xs : Table) → Once c → Distinct xs → Once (changeBy check c xs .cache)
+changes : (check : Check) (c : NeighborCache) (xs : Table) → Once c → Distinct xs → Once (changeBy check c (withEntries c xs) .cache)
 changes (Fails why) c xs d e = d
 changes Fine c xs d e = rw (entries-of c xs) e
 
-kept-once : (check : Check) (c : NeighborCache) (xs : Table) (r : Changed) → ChangedTo check c xs r → Once c → Distinct xs → Once (r .cache)
+kept-once : (check : Check) (c : NeighborCache) (xs : Table) (r : Changed) → ChangedTo check c (withEntries c xs) r → Once c → Distinct xs → Once (r .cache)
 kept-once check c xs r p d e = subst (λ (x : Changed). Once (x .cache)) (sym (p .is)) (changes check c xs d e)
 
 removes : (check : Check) (c : NeighborCache) (k : Key) → Once c → Once (removeBy check c k .cache)

@@ -13,8 +13,6 @@ use Rattle.neighbor.specs.declared.Answer.{Answer}
 use Rattle.neighbor.specs.declared.Answer.the-variants.{Refused as Denied, Found, Pending, NotFound}
 use Rattle.neighbor.specs.declared.Got.{Got}
 use Rattle.neighbor.specs.declared.Got.the-variants.{Refused as Rejected, Nothing, Is}
-use Rattle.neighbor.specs.declared.Outcome.{Outcome}
-use Rattle.neighbor.specs.declared.Outcome.the-variants.{Refused, Done}
 
 abbrev pub answerNumber : Answer → ℕ
 answerNumber (Denied why) = numberOf why
@@ -39,10 +37,6 @@ abbrev pub gotShown : Got → List Neighbor
 gotShown (Rejected why) = []
 gotShown Nothing = []
 gotShown (Is n) = n ∷ []
-
-abbrev pub outcomeNumber : Outcome → ℕ
-outcomeNumber (Refused why) = numberOf why
-outcomeNumber Done = 0
 
 -- "Reachable is Found, even past its time; Started and Incomplete are Pending; the rest NotFound."
 abbrev pub answerOf : State → Answer

@@ -2,17 +2,17 @@
 use Prim.Native.Nat.{ℕ}
 use mathlib.Core.Path.{_≡_}
 use mathlib.Core.Bool.{cond}
-use mathlib.Core.List.{List, [], _∷_}
-use lib.ListN.{take, length, getD, replicate}
+use mathlib.Core.List.{List, [], _∷_, map}
+use lib.ListN.{take, drop, length, getD, replicate}
 use lib.Dec.{ltb}
 use Rattle.table.specs.Table.{filled, firstOf}
 use Rattle.time.specs.declared.Instant.{Instant}
-use Rattle.time.specs.TimeRules.{addOf}
 use Rattle.wire.specs.declared.ipv6.Ipv6Addr.{Ipv6Addr}
 use Rattle.wire.specs.declared.ethernet.HardwareAddress.{HardwareAddress}
 use Rattle.wire.specs.declared.error.Check.{Check}
 use Rattle.wire.specs.declared.error.Check.the-variants.{Fine, Refused as Fails}
-use Rattle.wire.specs.Refusals.{firstRefusal, checkNumber, tooLate, noSuchIface, notUnicast, notUnicastHardware}
+use Rattle.wire.specs.declared.error.Refusal.{Refusal}
+use Rattle.wire.specs.Refusals.{checkNumber, outcomeNumber, decided, ifaceCheck, keyCheck, fillCheck}
 use Rattle.neighbor.specs.declared.State.{State}
 use Rattle.neighbor.specs.declared.State.the-variants.{Started, Reachable}
 use Rattle.neighbor.specs.declared.Entry.{Entry}
@@ -22,11 +22,11 @@ use Rattle.neighbor.specs.declared.Answer.the-variants.{Refused as Denie
 use Rattle.neighbor.specs.declared.Neighbor.{Neighbor}
 use Rattle.neighbor.specs.declared.Got.{Got}
 use Rattle.neighbor.specs.declared.Got.the-variants.{Refused as Rejected, Nothing, Is}
-use Rattle.neighbor.specs.declared.Outcome.the-variants.{Refused, Done}
+use Rattle.wire.specs.declared.error.Outcome.the-variants.{Refused, Done}
 use Rattle.neighbor.specs.declared.Changed.{Changed}
 use Rattle.neighbor.specs.declared.Removed.{Removed}
-use Rattle.neighbor.specs.Answers.{answerNumber, answerFound, gotNumber, gotShown, outcomeNumber, answerOf, sendsTo, listed}
-use Rattle.neighbor.specs.NeighborRules.{Key, isKey, find, insertState, removeKey, clearIface}
+use Rattle.neighbor.specs.Answers.{answerNumber, answerFound, gotNumber, gotShown, answerOf, sendsTo, listed}
+use Rattle.neighbor.specs.NeighborRules.{cacheRoom, Key, lasting, isKey, find, insertState, removeKey, clearIface}
 
 -- the entries: the first `len` slots; "A count above its size reads as the size"
 abbrev pub entries : NeighborCache → List Entry
@@ -41,20 +41,10 @@ abbrev pub blank : Entry
 blank = record { iface = 0; addr = record { hi = 0; lo = 0 }; state = Started }
 
 abbrev pub empty : NeighborCache
-empty = record { slots = replicate 16 blank; len = 0 }
+empty = record { slots = replicate cacheRoom blank; len = 0 }
 
 abbrev pub key : ℕ → Ipv6Addr → Key
 key iface addr = record { iface = iface; addr = addr }
-
--- "Number 2 belongs to lookup, start, fill and insert"
-abbrev pub keyCheck : ℕ → Ipv6Addr → Check
-keyCheck iface addr = firstRefusal (noSuchIface iface ∷ notUnicast addr ∷ [])
-
-abbrev pub fillCheck : Instant → ℕ → Ipv6Addr → HardwareAddress → Check
-fillCheck t iface addr hw = firstRefusal (tooLate t ∷ noSuchIface iface ∷ notUnicast addr ∷ notUnicastHardware hw ∷ [])
-
-abbrev pub ifaceCheck : ℕ → Check
-ifaceCheck iface = firstRefusal (noSuchIface iface ∷ [])
 
 -- the values of an answer: none of a refusal
 abbrev pub unless : {A : Type 0} → Check → List A → List A
@@ -79,33 +69,47 @@ pub record LookedUp (c : NeighborCache) (iface : ℕ) (addr : Ipv6Addr) (r : Ans
   pub number : answerNumber r ≡ checkNumber (keyCheck iface addr)
   pub found : answerFound r ≡ unless (keyCheck iface addr) (firstOf (isKey (key iface addr)) sentTo [] (entries c))
 
--- Calls that change the entries: "A refusal returns its number and changes nothing."
+-- Calls that change the entries
 
-abbrev pub changeBy : Check → NeighborCache → List Entry → Changed
-changeBy (Fails why) c xs = record { cache = c; outcome = Refused why }
-changeBy Fine c xs = record { cache = withEntries c xs; outcome = Done }
+-- the rules of the entries, of a cache: a state put under a key, a key removed, an interface cleared
+abbrev pub putIn : NeighborCache → Key → State → NeighborCache
+putIn c k s = withEntries c (insertState k s (entries c))
 
-pub record ChangedTo (check : Check) (c : NeighborCache) (xs : List Entry) (r : Changed) : Type 0 where
-  pub is : r ≡ changeBy check c xs
+abbrev pub removeIn : NeighborCache → Key → NeighborCache
+removeIn c k = withEntries c (removeKey k (entries c))
+
+abbrev pub clearIn : NeighborCache → ℕ → NeighborCache
+clearIn c iface = withEntries c (clearIface iface (entries c))
+
+abbrev pub changedTo : NeighborCache → Changed
+changedTo c = record { cache = c; outcome = Done }
+
+abbrev pub unchanged : NeighborCache → Refusal → Changed
+unchanged c why = record { cache = c; outcome = Refused why }
+
+abbrev pub changeBy : Check → NeighborCache → NeighborCache → Changed
+changeBy check c c' = decided check (unchanged c) (changedTo c')
+
+pub record ChangedTo (check : Check) (c c' : NeighborCache) (r : Changed) : Type 0 where
+  pub is : r ≡ changeBy check c c'
   pub number : outcomeNumber (r .outcome) ≡ checkNumber check
 
 -- "Start puts Started, over an entry of that key too."
 abbrev pub startTo : NeighborCache → ℕ → Ipv6Addr → Changed → Type 0
-startTo c iface addr r = ChangedTo (keyCheck iface addr) c (insertState (key iface addr) Started (entries c)) r
+startTo c iface addr r = ChangedTo (keyCheck iface addr) c (putIn c (key iface addr) Started) r
 
 -- "insert takes an expiry"
 abbrev pub insertTo : NeighborCache → ℕ → Ipv6Addr → HardwareAddress → Instant → Changed → Type 0
 insertTo c iface addr hw expires r =
-    ChangedTo (fillCheck expires iface addr hw) c (insertState (key iface addr) (Reachable hw expires) (entries c)) r
+    ChangedTo (fillCheck expires iface addr hw) c (putIn c (key iface addr) (Reachable hw expires)) r
 
--- "Fill puts Reachable for 60,000 ms"
 abbrev pub fillTo : NeighborCache → ℕ → Ipv6Addr → HardwareAddress → Instant → Changed → Type 0
 fillTo c iface addr hw now r =
-    ChangedTo (fillCheck now iface addr hw) c (insertState (key iface addr) (Reachable hw (addOf now (record { 0 = 60000 }))) (entries c)) r
+    ChangedTo (fillCheck now iface addr hw) c (putIn c (key iface addr) (lasting hw now)) r
 
 -- "clearing an interface keeps order"
 abbrev pub clearTo : NeighborCache → ℕ → Changed → Type 0
-clearTo c iface r = ChangedTo (ifaceCheck iface) c (clearIface iface (entries c)) r
+clearTo c iface r = ChangedTo (ifaceCheck iface) c (clearIn c iface) r
 
 -- Get, listing and remove: "removing or listing an absent key answers Nothing"
 
@@ -129,11 +133,16 @@ pub record GotBy (c : NeighborCache) (iface : ℕ) (addr : Ipv6Addr) (r : Got) :
 abbrev pub atIndex : NeighborCache → ℕ → Got
 atIndex c i = cond (ltb i (length (entries c))) (shown (getD (entries c) i blank)) Nothing
 
+pub record ListedAt (c : NeighborCache) (i : ℕ) (r : Got) : Type 0 where
+  pub is : r ≡ atIndex c i
+  pub number : gotNumber r ≡ 0
+  pub shows : gotShown r ≡ map listed (take 1 (drop i (entries c)))
+
 abbrev pub removeBy : Check → NeighborCache → Key → Removed
 removeBy (Fails why) c k = record { cache = c; taken = Rejected why }
 removeBy Fine c k =
     cond (ltb (find k (entries c)) (length (entries c)))
-    (record { cache = withEntries c (removeKey k (entries c)); taken = shown (getD (entries c) (find k (entries c)) blank) })
+    (record { cache = removeIn c k; taken = shown (getD (entries c) (find k (entries c)) blank) })
     (record { cache = c; taken = Nothing })
 
 pub record RemovedTo (c : NeighborCache) (iface : ℕ) (addr : Ipv6Addr) (r : Removed) : Type 0 where

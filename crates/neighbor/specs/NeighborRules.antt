@@ -1,11 +1,12 @@
 -- Document 01, "Neighbour cache": its rules on the entries, a list. Assumes nothing.
-use Prim.Native.Nat.{ℕ, zero, suc}
+use Prim.Native.Nat.{ℕ, suc}
 use mathlib.Core.Bool.{Bool, cond, _&&_, _||_}
 use mathlib.Core.List.{List, [], _∷_, _++_}
-use lib.ListN.{length, set, getD}
+use lib.ListN.{length, set}
 use lib.Dec.{ltb, eqb}
 use Rattle.table.specs.Table.{firstFrom, swapRemove, kept}
 use Rattle.time.specs.declared.Instant.{Instant}
+use Rattle.time.specs.TimeRules.{addOf}
 use Rattle.wire.specs.declared.ipv6.Ipv6Addr.{Ipv6Addr}
 use Rattle.wire.specs.declared.ethernet.HardwareAddress.{HardwareAddress}
 use Rattle.wire.specs.Rfc4291.{sameAddr}
@@ -16,6 +17,10 @@ use Rattle.neighbor.specs.declared.Entry.{Entry}
 abbrev pub Table : Type 0
 Table = List Entry
 
+-- "neighbours 16"
+abbrev pub cacheRoom : ℕ
+cacheRoom = 16
+
 -- "Keys are (interface, address), never twice."
 pub record Key : Type 0 where
   pub iface : ℕ
@@ -23,6 +28,10 @@ pub record Key : Type 0 where
 
 unfoldable pub sameKey : Key → Key → Bool
 sameKey a b = eqb (a .iface) (b .iface) && sameAddr (a .addr) (b .addr)
+
+-- "Fill puts Reachable for 60,000 ms"
+abbrev pub lasting : HardwareAddress → Instant → State
+lasting hw now = Reachable hw (addOf now (record { 0 = 60000 }))
 
 abbrev pub keyOf : Entry → Key
 keyOf e = record { iface = e .iface; addr = e .addr }
@@ -72,7 +81,7 @@ victim (e ∷ t) = victimFrom 0 (e .state) 1 t
 unfoldable pub insertState : Key → State → Table → Table
 insertState k s t =
     cond (ltb (find k t) (length t)) (set t (find k t) (entry k s))
-    (cond (ltb (length t) 16) (t ++ (entry k s ∷ [])) (set t (victim t) (entry k s)))
+    (cond (ltb (length t) cacheRoom) (t ++ (entry k s ∷ [])) (set t (victim t) (entry k s)))
 
 -- "Remove moves the last entry in"
 unfoldable pub removeKey : Key → Table → Table

@@ -4,18 +4,22 @@ ghost use mathlib.Core.Path.{_≡_};
 ghost use mathlib.Core.Bool.{_&&_, _||_};
 ghost use lib.Dec.{ltb, eqb};
 ghost use Rattle.neighbor.specs.Answers.{answerOf, listed, listedState};
-ghost use Rattle.neighbor.specs.CacheCalls.{empty, key, LookedUp, startTo, insertTo, fillTo, clearTo, GotBy, atIndex, RemovedTo};
-ghost use Rattle.neighbor.specs.NeighborRules.{isKey, kind, time, victim};
+ghost use Rattle.neighbor.specs.CacheCalls.{empty, key, LookedUp, changedTo, putIn, startTo, insertTo, fillTo, clearTo, GotBy, ListedAt, RemovedTo};
+ghost use Rattle.neighbor.specs.NeighborRules.{cacheRoom, isKey, keyOf, kind, time, victim};
 use table::count_of;
 use time::Duration;
 use time::Instant;
 use wire::error::Check;
+use wire::error::Outcome;
 use wire::error::Refusal;
 use wire::error::check_fill;
 use wire::error::check_iface;
 use wire::error::check_key;
 use wire::ethernet::HardwareAddress;
 use wire::ipv6::Ipv6Addr;
+
+// How many neighbours the cache holds, over all interfaces.
+pub const NEIGHBOR_CACHE_COUNT: usize = 16;
 
 // What is known of a neighbour (RFC 4861, 7.3.2, as far as the Rust has it).
 pub enum State {
@@ -45,7 +49,7 @@ pub struct Entry {
 }
 
 pub struct NeighborCache {
-    pub slots: [Entry; 16],
+    pub slots: [Entry; NEIGHBOR_CACHE_COUNT],
     pub len: usize,
 }
 
@@ -82,12 +86,6 @@ pub enum Got {
     Is(Neighbor),
 }
 
-// Whether a call was carried out.
-pub enum Outcome {
-    Refused(Refusal),
-    Done,
-}
-
 pub struct Changed {
     pub cache: NeighborCache,
     pub outcome: Outcome,
@@ -108,10 +106,10 @@ impl Rank {
     fn is_before(self, other: Rank) -> bool
         ensures { λ r. ⌜ r ≡ (ltb (self .kind) (other .kind) || (eqb (self .kind) (other .kind) && ltb (self .at) (other .at))) ⌝ }
     {
-        let k = self.kind < other.kind;
-        let s = self.kind == other.kind;
-        let t = self.at < other.at;
-        k | s & t
+        let lower_kind = self.kind < other.kind;
+        let same_kind = self.kind == other.kind;
+        let earlier = self.at < other.at;
+        lower_kind | same_kind & earlier
     }
 }
 
@@ -183,22 +181,22 @@ impl Entry {
     pub fn has_key(self, iface: u8, addr: Ipv6Addr) -> bool
         ensures { λ r. ⌜ r ≡ isKey (key iface addr) self ⌝ }
     {
-        let a = self.addr;
-        let i = iface == self.iface;
-        let s = addr.same(a);
-        i & s
+        let own_addr = self.addr;
+        let same_iface = iface == self.iface;
+        let same_addr = addr.same(own_addr);
+        same_iface & same_addr
     }
 
     fn listed(self) -> Neighbor
         ensures { λ r. ⌜ r ≡ listed self ⌝ }
     {
-        let a = self.addr;
-        let s = self.state;
-        let n = s.listed();
+        let addr = self.addr;
+        let state = self.state;
+        let shown = state.listed();
         Neighbor {
             iface: self.iface,
-            addr: a,
-            state: n,
+            addr: addr,
+            state: shown,
         }
     }
 }
@@ -222,7 +220,7 @@ impl NeighborCache {
             addr: nowhere,
             state: State::Started,
         };
-        let slots = [blank; 16];
+        let slots = [blank; NEIGHBOR_CACHE_COUNT];
         NeighborCache {
             slots: slots,
             len: 0,
@@ -240,13 +238,13 @@ impl NeighborCache {
             }
             Check::Fine => {}
         }
-        let n = count_of(self.len, 16);
+        let count = count_of(self.len, NEIGHBOR_CACHE_COUNT);
         let mut i = 0;
-        while i < n {
-            let e = self.slots[i];
-            if e.has_key(iface, addr) {
-                let s = e.state;
-                return s.answer();
+        while i < count {
+            let entry = self.slots[i];
+            if entry.has_key(iface, addr) {
+                let state = entry.state;
+                return state.answer();
             }
             i += 1;
         }
@@ -257,12 +255,11 @@ impl NeighborCache {
     pub fn start_resolution(self, iface: u8, addr: Ipv6Addr) -> Changed
         ensures { λ r. ⌜ startTo self iface addr r ⌝ }
     {
-        let mut cache = self;
         let check = check_key(iface, addr);
         match check {
             Check::Refused(why) => {
                 return Changed {
-                    cache: cache,
+                    cache: self,
                     outcome: Outcome::Refused(why),
                 };
             }
@@ -273,35 +270,7 @@ impl NeighborCache {
             addr: addr,
             state: State::Started,
         };
-        let n = count_of(cache.len, 16);
-        let mut i = 0;
-        while i < n {
-            let e = cache.slots[i];
-            if e.has_key(iface, addr) {
-                cache.slots[i] = entry;
-                cache.len = n;
-                return Changed {
-                    cache: cache,
-                    outcome: Outcome::Done,
-                };
-            }
-            i += 1;
-        }
-        if n < 16 {
-            cache.slots[n] = entry;
-            cache.len = n + 1;
-            return Changed {
-                cache: cache,
-                outcome: Outcome::Done,
-            };
-        }
-        let index = cache.evicted();
-        cache.slots[index] = entry;
-        cache.len = n;
-        Changed {
-            cache: cache,
-            outcome: Outcome::Done,
-        }
+        self.insert_state(entry)
     }
 
     pub fn fill(
@@ -313,12 +282,11 @@ impl NeighborCache {
     ) -> Changed
         ensures { λ r. ⌜ fillTo self iface addr «hardware_addr» now r ⌝ }
     {
-        let mut cache = self;
         let check = check_fill(now, iface, addr, hardware_addr);
         match check {
             Check::Refused(why) => {
                 return Changed {
-                    cache: cache,
+                    cache: self,
                     outcome: Outcome::Refused(why),
                 };
             }
@@ -334,35 +302,7 @@ impl NeighborCache {
             addr: addr,
             state: state,
         };
-        let n = count_of(cache.len, 16);
-        let mut i = 0;
-        while i < n {
-            let e = cache.slots[i];
-            if e.has_key(iface, addr) {
-                cache.slots[i] = entry;
-                cache.len = n;
-                return Changed {
-                    cache: cache,
-                    outcome: Outcome::Done,
-                };
-            }
-            i += 1;
-        }
-        if n < 16 {
-            cache.slots[n] = entry;
-            cache.len = n + 1;
-            return Changed {
-                cache: cache,
-                outcome: Outcome::Done,
-            };
-        }
-        let index = cache.evicted();
-        cache.slots[index] = entry;
-        cache.len = n;
-        Changed {
-            cache: cache,
-            outcome: Outcome::Done,
-        }
+        self.insert_state(entry)
     }
 
     // For an application that knows the neighbour. It expires like any other, so it has to come again.
@@ -375,12 +315,11 @@ impl NeighborCache {
     ) -> Changed
         ensures { λ r. ⌜ insertTo self iface addr «hardware_addr» «expires_at» r ⌝ }
     {
-        let mut cache = self;
         let check = check_fill(expires_at, iface, addr, hardware_addr);
         match check {
             Check::Refused(why) => {
                 return Changed {
-                    cache: cache,
+                    cache: self,
                     outcome: Outcome::Refused(why),
                 };
             }
@@ -395,35 +334,7 @@ impl NeighborCache {
             addr: addr,
             state: state,
         };
-        let n = count_of(cache.len, 16);
-        let mut i = 0;
-        while i < n {
-            let e = cache.slots[i];
-            if e.has_key(iface, addr) {
-                cache.slots[i] = entry;
-                cache.len = n;
-                return Changed {
-                    cache: cache,
-                    outcome: Outcome::Done,
-                };
-            }
-            i += 1;
-        }
-        if n < 16 {
-            cache.slots[n] = entry;
-            cache.len = n + 1;
-            return Changed {
-                cache: cache,
-                outcome: Outcome::Done,
-            };
-        }
-        let index = cache.evicted();
-        cache.slots[index] = entry;
-        cache.len = n;
-        Changed {
-            cache: cache,
-            outcome: Outcome::Done,
-        }
+        self.insert_state(entry)
     }
 
     pub fn get(self, iface: u8, addr: Ipv6Addr) -> Got
@@ -436,12 +347,12 @@ impl NeighborCache {
             }
             Check::Fine => {}
         }
-        let n = count_of(self.len, 16);
+        let count = count_of(self.len, NEIGHBOR_CACHE_COUNT);
         let mut i = 0;
-        while i < n {
-            let e = self.slots[i];
-            if e.has_key(iface, addr) {
-                let found = e.listed();
+        while i < count {
+            let entry = self.slots[i];
+            if entry.has_key(iface, addr) {
+                let found = entry.listed();
                 return Got::Is(found);
             }
             i += 1;
@@ -451,12 +362,12 @@ impl NeighborCache {
 
     // The entry at an index, for a listing.
     pub fn at(self, index: usize) -> Got
-        ensures { λ r. ⌜ r ≡ atIndex self index ⌝ }
+        ensures { λ r. ⌜ ListedAt self index r ⌝ }
     {
-        let n = count_of(self.len, 16);
-        if index < n {
-            let e = self.slots[index];
-            let found = e.listed();
+        let count = count_of(self.len, NEIGHBOR_CACHE_COUNT);
+        if index < count {
+            let entry = self.slots[index];
+            let found = entry.listed();
             return Got::Is(found);
         }
         Got::Nothing
@@ -477,15 +388,15 @@ impl NeighborCache {
             }
             Check::Fine => {}
         }
-        let n = count_of(cache.len, 16);
+        let count = count_of(cache.len, NEIGHBOR_CACHE_COUNT);
         let mut i = 0;
-        while i < n {
-            let e = cache.slots[i];
-            if e.has_key(iface, addr) {
-                let last = cache.slots[n - 1];
+        while i < count {
+            let entry = cache.slots[i];
+            if entry.has_key(iface, addr) {
+                let last = cache.slots[count - 1];
                 cache.slots[i] = last;
-                cache.len = n - 1;
-                let taken = e.listed();
+                cache.len = count - 1;
+                let taken = entry.listed();
                 return Removed {
                     cache: cache,
                     taken: Got::Is(taken),
@@ -514,45 +425,83 @@ impl NeighborCache {
             }
             Check::Fine => {}
         }
-        let n = count_of(cache.len, 16);
-        let mut w = 0;
+        let count = count_of(cache.len, NEIGHBOR_CACHE_COUNT);
+        let mut kept = 0;
         let mut i = 0;
-        while i < n {
+        while i < count {
             let at = i;
             i += 1;
             if iface != cache.slots[at].iface {
-                let e = cache.slots[at];
-                cache.slots[w] = e;
-                w += 1;
+                let entry = cache.slots[at];
+                cache.slots[kept] = entry;
+                kept += 1;
             }
         }
-        cache.len = w;
+        cache.len = kept;
         Changed {
             cache: cache,
             outcome: Outcome::Done,
         }
     }
 
-    // The index that a full cache gives up: what can be had again at once first, a resolution last, since packets wait on it.
-    fn evicted(self) -> usize
-        ensures { λ r. ⌜ (r ≡ victim (self .slots)) × (r < 16) ⌝ }
+    // Puts an entry over that of its key; else at the end; else, in a full cache, over the one that is evicted.
+    fn insert_state(mut self, entry: Entry) -> Changed
+        ensures { λ r. ⌜ r ≡ changedTo (putIn self (keyOf entry) (entry .state)) ⌝ }
     {
-        let first = self.slots[0];
-        let s = first.state;
-        let mut best = s.rank();
-        let mut index = 0;
-        let mut i = 1;
-        while i < 16 {
-            let e = self.slots[i];
-            let s = e.state;
-            let r = s.rank();
-            let at = i;
-            i += 1;
-            if r.is_before(best) {
-                best = r;
-                index = at;
+        let addr = entry.addr;
+        let count = count_of(self.len, NEIGHBOR_CACHE_COUNT);
+        let mut i = 0;
+        while i < count {
+            let known = self.slots[i];
+            if known.has_key(entry.iface, addr) {
+                self.slots[i] = entry;
+                self.len = count;
+                return Changed {
+                    cache: self,
+                    outcome: Outcome::Done,
+                };
             }
+            i += 1;
         }
-        index
+        if count < NEIGHBOR_CACHE_COUNT {
+            self.slots[count] = entry;
+            self.len = count + 1;
+            return Changed {
+                cache: self,
+                outcome: Outcome::Done,
+            };
+        }
+        let slots = self.slots;
+        let index = evicted(slots);
+        self.slots[index] = entry;
+        self.len = count;
+        Changed {
+            cache: self,
+            outcome: Outcome::Done,
+        }
     }
+}
+
+// The index that a full cache gives up: what can be had again at once first, a resolution last, since packets wait on it.
+// It takes the slots alone: of a whole cache the compiler would make a copy more.
+fn evicted(slots: [Entry; NEIGHBOR_CACHE_COUNT]) -> usize
+    ensures { λ r. ⌜ (r ≡ victim slots) × (r < cacheRoom) ⌝ }
+{
+    let first = slots[0];
+    let first_state = first.state;
+    let mut best = first_state.rank();
+    let mut index = 0;
+    let mut i = 1;
+    while i < NEIGHBOR_CACHE_COUNT {
+        let entry = slots[i];
+        let state = entry.state;
+        let rank = state.rank();
+        let at = i;
+        i += 1;
+        if rank.is_before(best) {
+            best = rank;
+            index = at;
+        }
+    }
+    index
 }

@@ -5,12 +5,14 @@ use lib.ListN.{length, take, drop, set, getD, length-append, drop-of-length-le}
 use lib.Seq.{take-append-seam, drop-append-seam, drop-set-lt}
 use mathlib.Core.Bool.{Bool, true, false, cond, not, true≢false}
 use mathlib.Core.List.{List, [], _∷_, _++_}
-use mathlib.Core.Path.{_≡_, refl, sym, ap, ap₂, _∙_}
+use mathlib.Core.Path.{_≡_, refl, sym, ap, ap₂, subst, _∙_}
 use native.Mathlib.Omega.{arith}
-use Rattle.neighbor.specs.CacheCalls.{key, ifaceCheck, unless}
+use Rattle.neighbor.specs.CacheCalls.{key, entries, unless}
+use Rattle.wire.specs.Refusals.{ifaceCheck, checkNumber}
 use Rattle.neighbor.specs.NeighborRules.{Table, Key, isKey}
-use Rattle.neighbor.specs.declared.Outcome.the-variants.{Refused, Done}
-use Rattle.pending.specs.QueueCalls.{packets, withPackets, blank, zeros, pushNumber, pushedOut, pushBy, PushedTo, releaseNumber, releasedOut, handleAlone, releaseBy, ReleasedTo, purgedOf, purgeBy, PurgedTo, atIndex}
+use Rattle.neighbor.specs.declared.NeighborCache.{NeighborCache}
+use Rattle.wire.specs.declared.error.Outcome.the-variants.{Refused, Done}
+use Rattle.pending.specs.QueueCalls.{queueRoom, packets, withPackets, blank, zeros, pushNumber, pushedOut, pushBy, PushedTo, releaseNumber, releasedOut, handleAlone, releaseBy, ReleasedTo, purgedOf, OrphansPurged, purgeBy, PurgedTo, WaitingAt}
 use Rattle.pending.specs.QueueRules.{Queue, keyOf, packet, hasKey, isFull, pushList, oldest, pushAnswer, gone, releaseList, handed, releaseAnswer, awaitsIn, orphaned, onIface, droppedHandles}
 use Rattle.pending.specs.declared.Handles.{Handles}
 use Rattle.pending.specs.declared.PendingPacket.{PendingPacket}
@@ -23,9 +25,8 @@ use Rattle.pending.specs.declared.Release.the-variants.{Refused as Rejec
 use Rattle.pending.specs.declared.Release.{Release}
 use Rattle.pending.specs.declared.Released.{Released}
 use Rattle.pending.specs.declared.Waiting.the-variants.{Nothing as NoPacket, Is}
-use Rattle.table.proofs.Laws.{Made, made, counted, entry-at, entries-from, at-end, one-more, agree-from, Collecting, collect, nothing, collected, Compacting, compacting, next, one-gone, one-kept, compacted, Moving, moved, Finding, found-goes, found-any, absent-any, Scanning, scan-found}
+use Rattle.table.proofs.Laws.{Made, made, counted, entry-at, entries-from, at-end, one-more, agree-from, Collecting, collect, nothing, collected, Compacting, compacting, next, one-gone, one-kept, compacted, Moving, moving, moved, Finding, finding, find-next, found-goes, found-any, absent-any, Scanning, scanning, scan-next, scan-found}
 use Rattle.table.specs.Table.{filled, anyOf, firstOf, kept, without}
-use Rattle.wire.specs.Refusals.{checkNumber}
 use Rattle.wire.specs.declared.error.Check.the-variants.{Fine, Refused as Fails}
 use Rattle.wire.specs.declared.error.Check.{Check}
 use Rattle.wire.specs.declared.error.Refusal.{Refusal}
@@ -58,10 +59,10 @@ push-gives : (b : Bool) (h : ℕ) → pushedOut (cond b (Dropped h) Queued) ≡ 
 push-gives true h = refl
 push-gives false h = refl
 
-pushed-by : (x : Check) (q : PendingQueue) (p : PendingPacket) → pushedOut (pushBy x q p .answer) ≡ unless x (cond (isFull (packets q)) (oldest (packets q) ∷ []) [])
+pushed-by : (x : Check) (q : PendingQueue) (p : PendingPacket) → pushedOut (pushBy x q p .answer) ≡ unless x (cond (isFull queueRoom (packets q)) (oldest (packets q) ∷ []) [])
 unfolding pushAnswer
 pushed-by (Fails why) q p = refl
-pushed-by Fine q p = push-gives (isFull (packets q)) (oldest (packets q))
+pushed-by Fine q p = push-gives (isFull queueRoom (packets q)) (oldest (packets q))
 
 module _ (q : PendingQueue) (iface : ℕ) (addr : Ipv6Addr) (handle : ℕ) where
   pushed-as : (r : Pushed) → r ≡ pushBy (ifaceCheck iface) q (packet (key iface addr) handle) → pushNumber (r .answer) ≡ checkNumber (ifaceCheck iface)
@@ -73,11 +74,11 @@ module _ (q : PendingQueue) (iface : ℕ) (addr : Ipv6Addr) (handle : ℕ) where
   push-refused why e =
       pushed-as _ (ap (λ (x : Check). pushBy x q (packet (key iface addr) handle)) (sym e)) (ap checkNumber (sym e))
 
-  pub pushed : (s : Queue) (n : ℕ) (a : Push) → ifaceCheck iface ≡ Fine → Made (q .slots) (pushList (packet (key iface addr) handle) (packets q)) s n
-      → a ≡ pushAnswer (packets q) → pushNumber a ≡ 0 → PushedTo q iface addr handle (record { queue = record { slots = s; len = n }; answer = a })
+  pub pushed : (s : Queue) (n : ℕ) (a : Push) → ifaceCheck iface ≡ Fine → Made (q .slots) (pushList queueRoom (packet (key iface addr) handle) (packets q)) s n
+      → a ≡ pushAnswer queueRoom (packets q) → pushNumber a ≡ 0 → PushedTo q iface addr handle (record { queue = record { slots = s; len = n }; answer = a })
   pushed s n a e m t z =
       let made : _≡_ {A = Pushed} (record { queue = record { slots = s; len = n }; answer = a })
-      (record { queue = withPackets q (pushList (packet (key iface addr) handle) (packets q)); answer = pushAnswer (packets q) }) =
+      (record { queue = withPackets q (pushList queueRoom (packet (key iface addr) handle) (packets q)); answer = pushAnswer queueRoom (packets q) }) =
       ap₂ (λ (x : PendingQueue) (y : Push). record { queue = x; answer = y })
       (ap₂ (λ (x : Queue) (y : ℕ). record { slots = x; len = y }) (m .slots) (m .count)) t in
       pushed-as _ (made ∙ ap (λ (x : Check). pushBy x q (packet (key iface addr) handle)) (sym e)) (z ∙ ap checkNumber (sym e))
@@ -86,33 +87,33 @@ module _ (y : PendingPacket) (s : Queue) (len n : ℕ) (full : length s ≡ 8) (
   count : n ≡ length (take len s)
   count = counted s len 8 n full e
 
-  room : n < 8 → isFull (take len s) ≡ false
+  room : n < 8 → isFull queueRoom (take len s) ≡ false
   room h = let l : length (take len s) < 8 = omega (arith, count) in simp (lt-ltb (length (take len s)) 8 l)
 
-  no-room : 8 ≤ n → isFull (take len s) ≡ true
+  no-room : 8 ≤ n → isFull queueRoom (take len s) ≡ true
   no-room h = let l : 8 ≤ length (take len s) = omega (arith, count) in simp (le-ltb (length (take len s)) 8 l)
 
-  pub push-room : n < 8 → Made s (pushList y (take len s)) (set s n y) (n + 1)
+  pub push-room : n < 8 → Made s (pushList queueRoom y (take len s)) (set s n y) (n + 1)
   unfolding pushList
   push-room h =
-      let w : take len s ++ (y ∷ []) ≡ pushList y (take len s) = simp (room h) in
+      let w : take len s ++ (y ∷ []) ≡ pushList queueRoom y (take len s) = simp (room h) in
       let m : n + 1 ≡ length (take len s ++ (y ∷ [])) = simp length-append (omega (arith, count)) in
       record { slots = at-end s len n count y (omega arith) ∙ ap (λ (l : Queue). filled s l) w; count = m ∙ ap length w }
 
-  pub push-queued : n < 8 → Queued ≡ pushAnswer (take len s)
+  pub push-queued : n < 8 → Queued ≡ pushAnswer queueRoom (take len s)
   unfolding pushAnswer
   push-queued h = simp (room h)
 
-  pub push-full : (t : Queue) (hole after : ℕ) → Moving 8 s len 0 n t hole after → n ≤ after → 8 ≤ n → Made s (pushList y (take len s)) (set t hole y) n
+  pub push-full : (t : Queue) (hole after : ℕ) → Moving 8 s len 0 n t hole after → n ≤ after → 8 ≤ n → Made s (pushList queueRoom y (take len s)) (set t hole y) n
   unfolding pushList
   push-full t hole after inv h l =
       let k : hole + 1 ≡ n = omega (arith, inv .step, inv .top) in
-      let w : without (take len s) 0 ++ (y ∷ []) ≡ pushList y (take len s) = simp (no-room l) in
+      let w : without (take len s) 0 ++ (y ∷ []) ≡ pushList queueRoom y (take len s) = simp (no-room l) in
       let m : Made s (without (take len s) 0 ++ (y ∷ [])) (set t hole y) (hole + 1) =
       appended y (moved blank inv h) (omega (arith, inv .full, inv .step, inv .top, inv .most)) in
       record { slots = m .slots ∙ ap (λ (u : Queue). filled s u) w; count = sym k ∙ (m .count ∙ ap length w) }
 
-  pub push-dropped : 8 ≤ n → Dropped (getD s 0 blank .handle) ≡ pushAnswer (take len s)
+  pub push-dropped : 8 ≤ n → Dropped (getD s 0 blank .handle) ≡ pushAnswer queueRoom (take len s)
   unfolding pushAnswer
   push-dropped h =
       let l : take len s ≡ getD s 0 blank ∷ drop 1 (take len s) = entries-from blank s len 0 (omega (arith, count)) in
@@ -121,9 +122,29 @@ module _ (y : PendingPacket) (s : Queue) (len n : ℕ) (full : length s ≡ 8) (
 
 -- Release
 
-pub record Seeking (k : Key) (s : Queue) (len n i : ℕ) : Type 0 where
-  pub finding : Finding 8 (hasKey k) gone [] s len n i
-  pub scanning : Scanning 8 (hasKey k) handed Nothing s len n i
+-- the loop that looks for a key: `q` is the queue `q₀` still, and none of its first `i` packets has the key
+pub record Seeking (k : Key) (q₀ q : PendingQueue) (n i : ℕ) : Type 0 where
+  pub same : q ≡ q₀
+  pub finding : Finding 8 (hasKey k) gone [] (q .slots) (q .len) n i
+  pub scanning : Scanning 8 (hasKey k) handed Nothing (q .slots) (q .len) n i
+
+pub seeking : (k : Key) (q : PendingQueue) (n : ℕ) → length (q .slots) ≡ 8 → n ≡ min (q .len) 8 → Seeking k q q n 0
+seeking k q n full e =
+    record {
+      same = refl;
+      finding = finding 8 (hasKey k) gone [] (q .slots) (q .len) n full e;
+      scanning = scanning 8 (hasKey k) handed Nothing (q .slots) (q .len) n full e;
+    }
+
+pub seek-on : {k : Key} {q₀ q : PendingQueue} {n i : ℕ} → Seeking k q₀ q n i → i < n → hasKey k (getD (q .slots) i blank) ≡ false
+    → Seeking k q₀ q n (i + 1)
+seek-on inv h g = record { same = inv .same; finding = find-next blank (inv .finding) h g; scanning = scan-next blank (inv .scanning) h g }
+
+-- the loop that moves the later packets down begins at the key's packet
+pub seek-moving : {k : Key} {q₀ q : PendingQueue} {n i : ℕ} → Seeking k q₀ q n i → n ≡ min (q₀ .len) 8 → i < n
+    → Moving 8 (q .slots) (q .len) i n (q .slots) i (i + 1)
+seek-moving inv e h =
+    moving 8 _ _ _ _ (inv .finding .full) (e ∙ ap (λ (x : PendingQueue). min (x .len) 8) (sym (inv .same))) h
 
 -- an answer by the first packet of the key, or where none is there
 gives-first : (k : Key) (ps : Queue) → releasedOut (firstOf (hasKey k) handed Nothing ps) ≡ firstOf (hasKey k) handleAlone [] ps
@@ -163,15 +184,19 @@ module _ (q : PendingQueue) (iface : ℕ) (addr : Ipv6Addr) where
   pub release-refused : (why : Refusal) → ifaceCheck iface ≡ Fails why → ReleasedTo q iface addr (record { queue = q; answer = Rejected why })
   release-refused why e = released-as _ (ap (λ (x : Check). releaseBy x q (key iface addr)) (sym e)) (ap checkNumber (sym e))
 
-  module _ {n i : ℕ} (inv : Seeking (key iface addr) (q .slots) (q .len) n i) (e : ifaceCheck iface ≡ Fine) where
-    pub release-none : n ≤ i → ReleasedTo q iface addr (record { queue = q; answer = Nothing })
+  module _ {q₀ : PendingQueue} {n i : ℕ} (inv : Seeking (key iface addr) q₀ q n i) (e : ifaceCheck iface ≡ Fine) where
+    -- what holds of the queue holds of the one that came
+    came : {r : Released} → ReleasedTo q iface addr r → ReleasedTo q₀ iface addr r
+    came {r} d = subst (λ (x : PendingQueue). ReleasedTo x iface addr r) (inv .same) d
+
+    pub release-none : n ≤ i → ReleasedTo q₀ iface addr (record { queue = q; answer = Nothing })
     release-none h =
         let w : record { queue = q; answer = Nothing } ≡ releaseBy Fine q (key iface addr) = simp (absent-any blank (inv .finding) h) in
-        released-as _ (w ∙ ap (λ (x : Check). releaseBy x q (key iface addr)) (sym e)) (ap checkNumber (sym e))
+        came (released-as _ (w ∙ ap (λ (x : Check). releaseBy x q (key iface addr)) (sym e)) (ap checkNumber (sym e)))
 
     pub released : (t : Queue) (hole : ℕ) → i < n → hasKey (key iface addr) (getD (q .slots) i blank) ≡ true
         → Made (q .slots) (without (packets q) i) t hole
-        → ReleasedTo q iface addr (record { queue = record { slots = t; len = hole }; answer = Handle (getD (q .slots) i blank .handle) })
+        → ReleasedTo q₀ iface addr (record { queue = record { slots = t; len = hole }; answer = Handle (getD (q .slots) i blank .handle) })
     unfolding releaseList releaseAnswer
     released t hole h g m =
         let l : without (packets q) i ≡ releaseList (key iface addr) (packets q) = found-goes blank (inv .finding) h g refl in
@@ -182,7 +207,7 @@ module _ (q : PendingQueue) (iface : ℕ) (addr : Ipv6Addr) where
         (ap₂ (λ (x : Queue) (y : ℕ). record { slots = x; len = y }) (m .slots ∙ ap (λ (u : Queue). filled (q .slots) u) l) (m .count ∙ ap length l)) a in
         let w : record { queue = withPackets q (releaseList (key iface addr) (packets q)); answer = releaseAnswer (key iface addr) (packets q) }
         ≡ releaseBy Fine q (key iface addr) = simp (found-any blank (inv .finding) h g) in
-        released-as _ (made ∙ (w ∙ ap (λ (x : Check). releaseBy x q (key iface addr)) (sym e))) (ap checkNumber (sym e))
+        came (released-as _ (made ∙ (w ∙ ap (λ (x : Check). releaseBy x q (key iface addr)) (sym e))) (ap checkNumber (sym e)))
 
 -- Purges: the loop keeps what stays, and collects the handles of what goes
 
@@ -234,6 +259,11 @@ purged q goes {n} {s} {w} {i} {b} {m} inv h =
     (ap₂ (λ (x : Queue) (y : ℕ). record { slots = x; len = y }) (k .slots) (k .count))
     (ap₂ (λ (x : List ℕ) (y : ℕ). record { slots = x; len = y }) (o .0) (o .1))
 
+pub purged-orphans : (q : PendingQueue) (c : NeighborCache) {n : ℕ} {s : Queue} {w i : ℕ} {b : List ℕ} {m : ℕ}
+    → Purging (orphaned (entries c)) (q .slots) (q .len) n s w i b m → n ≤ i
+    → OrphansPurged q c (record { queue = record { slots = s; len = w }; handles = record { slots = b; len = m }; outcome = Done })
+purged-orphans q c inv h = record { is = purged q (orphaned (entries c)) inv h; number = refl }
+
 module _ (q : PendingQueue) (iface : ℕ) where
   pub purge-refused : (why : Refusal) → ifaceCheck iface ≡ Fails why
       → PurgedTo q iface (record { queue = q; handles = record { slots = zeros; len = 0 }; outcome = Refused why })
@@ -262,10 +292,20 @@ module _ (q : PendingQueue) (n i : ℕ) (full : length (q .slots) ≡ 8) (e : n 
   packet-count : n ≡ length (packets q)
   packet-count = counted (q .slots) (q .len) 8 n full e
 
-  pub at-packet : i < n → Is (getD (q .slots) i blank) ≡ atIndex q i
+  pub at-packet : i < n → WaitingAt q i (Is (getD (q .slots) i blank))
   at-packet h =
       let l : i < length (packets q) = omega (arith, packet-count) in
-      ap Is (sym (entry-at blank (q .slots) (q .len) i l)) ∙ simp (lt-ltb i (length (packets q)) l)
+      record {
+        is = ap Is (sym (entry-at blank (q .slots) (q .len) i l)) ∙ simp (lt-ltb i (length (packets q)) l);
+        number = refl;
+        shows = sym (ap (λ (ps : Queue). take 1 ps) (entries-from blank (q .slots) (q .len) i l));
+      }
 
-  pub at-none : n ≤ i → NoPacket ≡ atIndex q i
-  at-none h = let l : length (packets q) ≤ i = omega (arith, packet-count) in simp (le-ltb i (length (packets q)) l)
+  pub at-none : n ≤ i → WaitingAt q i NoPacket
+  at-none h =
+      let l : length (packets q) ≤ i = omega (arith, packet-count) in
+      record {
+        is = simp (le-ltb i (length (packets q)) l);
+        number = refl;
+        shows = sym (ap (λ (ps : Queue). take 1 ps) (drop-of-length-le (packets q) l));
+      }

@@ -1,5 +1,5 @@
 -- Nothing is lost and nothing is made up. Assumes nothing.
-use Prim.Native.Nat.{ℕ, suc, _+_, _≤_}
+use Prim.Native.Nat.{ℕ, suc, _+_, _≤_, _<_}
 use borrow.Author.Tests.{ltb-true, ltb-false}
 use lib.Dec.{ltb, eqb}
 use lib.ListN.{length, drop, length-append}
@@ -39,25 +39,25 @@ waiting-end h p (x ∷ q) =
       waiting-end h p q,
     )
 
-push-count : (h : ℕ) (p : PendingPacket) (q : Queue)
-    → waiting h q + countOf h (handleOf p ∷ []) ≡ waiting h (pushList p q) + countOf h (pushedOut (pushAnswer q))
+push-count : (room h : ℕ) (p : PendingPacket) (q : Queue) → 0 < room
+    → waiting h q + countOf h (handleOf p ∷ []) ≡ waiting h (pushList room p q) + countOf h (pushedOut (pushAnswer room q))
 unfolding pushList pushAnswer
-push-count h p q = go q (ltb (length q) 8) refl
+push-count room h p q some = go q (ltb (length q) room) refl
   where
-    go : (q : Queue) (b : Bool) → ltb (length q) 8 ≡ b
+    go : (q : Queue) (b : Bool) → ltb (length q) room ≡ b
         → waiting h q + countOf h (handleOf p ∷ [])
         ≡ waiting h (cond (not b) (drop 1 q) q ++ (p ∷ [])) + countOf h (pushedOut (cond (not b) (Dropped (oldest q)) Queued))
     go q true e = omega (arith, waiting-end h p q)
-    go [] false e = absurd (omega (arith, ltb-false 0 8 e))
+    go [] false e = absurd (omega (arith, ltb-false 0 room e))
     go (x ∷ q) false e = omega (arith, waiting-cons h x q, waiting-end h p q)
 
-push-room : (p : PendingPacket) (q : Queue) → length q ≤ 8 → length (pushList p q) ≤ 8
+push-room : (room : ℕ) (p : PendingPacket) (q : Queue) → 0 < room → length q ≤ room → length (pushList room p q) ≤ room
 unfolding pushList
-push-room p q l = go q (ltb (length q) 8) refl l
+push-room room p q some l = go q (ltb (length q) room) refl l
   where
-    go : (q : Queue) (b : Bool) → ltb (length q) 8 ≡ b → length q ≤ 8 → length (cond (not b) (drop 1 q) q ++ (p ∷ [])) ≤ 8
-    go q true e l = omega (arith, length-append q (p ∷ []), ltb-true (length q) 8 e)
-    go [] false e l = absurd (omega (arith, ltb-false 0 8 e))
+    go : (q : Queue) (b : Bool) → ltb (length q) room ≡ b → length q ≤ room → length (cond (not b) (drop 1 q) q ++ (p ∷ [])) ≤ room
+    go q true e l = omega (arith, length-append q (p ∷ []), ltb-true (length q) room e)
+    go [] false e l = absurd (omega (arith, ltb-false 0 room e))
     go (x ∷ q) false e l = omega (arith, length-append q (p ∷ []))
 
 release-count : (h : ℕ) (k : Key) (q : Queue) → waiting h q ≡ waiting h (releaseList k q) + countOf h (releasedOut (releaseAnswer k q))

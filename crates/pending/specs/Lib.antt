@@ -1,3 +1,4 @@
 pub mod QueueRules
 pub mod QueueCalls
 pub mod QueueCount
+pub mod QueueScans

@@ -32,19 +32,19 @@ packet k handle = record { iface = k .iface; addr = k .addr; handle = handle }
 abbrev pub hasKey : Key → PendingPacket → Bool
 hasKey k p = sameKey k (keyOf p)
 
--- "A push on a full queue drops the oldest and returns it."
-abbrev pub isFull : Queue → Bool
-isFull q = not (ltb (length q) 8)
+-- "A push on a full queue drops the oldest and returns it.": of a queue with this room
+abbrev pub isFull : ℕ → Queue → Bool
+isFull room q = not (ltb (length q) room)
 
-unfoldable pub pushList : PendingPacket → Queue → Queue
-pushList p q = cond (isFull q) (drop 1 q) q ++ (p ∷ [])
+unfoldable pub pushList : ℕ → PendingPacket → Queue → Queue
+pushList room p q = cond (isFull room q) (drop 1 q) q ++ (p ∷ [])
 
 abbrev pub oldest : Queue → ℕ
 oldest [] = 0
 oldest (p ∷ q) = handleOf p
 
-unfoldable pub pushAnswer : Queue → Push
-pushAnswer q = cond (isFull q) (Dropped (oldest q)) Queued
+unfoldable pub pushAnswer : ℕ → Queue → Push
+pushAnswer room q = cond (isFull room q) (Dropped (oldest q)) Queued
 
 -- "Release takes the oldest of its key."
 abbrev pub gone : PendingPacket → Queue

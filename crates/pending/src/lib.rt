@@ -1,16 +1,20 @@
 // The packets that wait for a neighbour's resolution: 32-bit handles under the keys of the neighbour cache, oldest first.
 ghost use mathlib.Core.Path.{_≡_};
-ghost use Rattle.neighbor.specs.CacheCalls.{key, entries};
-ghost use Rattle.pending.specs.QueueRules.{hasKey, awaits, orphaned};
-ghost use Rattle.pending.specs.QueueCalls.{empty, PushedTo, ReleasedTo, purgedOf, PurgedTo, atIndex};
+ghost use Rattle.neighbor.specs.CacheCalls.{key};
+ghost use Rattle.pending.specs.QueueRules.{hasKey, awaits};
+ghost use Rattle.pending.specs.QueueCalls.{empty, PushedTo, ReleasedTo, OrphansPurged, PurgedTo, WaitingAt};
+use neighbor::NEIGHBOR_CACHE_COUNT;
 use neighbor::NeighborCache;
-use neighbor::Outcome;
 use neighbor::State;
 use table::count_of;
 use wire::error::Check;
+use wire::error::Outcome;
 use wire::error::Refusal;
 use wire::error::check_iface;
 use wire::ipv6::Ipv6Addr;
+
+// How many packets the queue holds, over all interfaces.
+pub const PENDING_QUEUE_COUNT: usize = 8;
 
 // A packet that waits for its key, the interface and the address.
 pub struct PendingPacket {
@@ -21,13 +25,13 @@ pub struct PendingPacket {
 
 // The oldest packet stands first.
 pub struct PendingQueue {
-    pub slots: [PendingPacket; 8],
+    pub slots: [PendingPacket; PENDING_QUEUE_COUNT],
     pub len: usize,
 }
 
 // Handles that were dropped, in queue order; past the count are zeros.
 pub struct Handles {
-    pub slots: [u32; 8],
+    pub slots: [u32; PENDING_QUEUE_COUNT],
     pub len: usize,
 }
 
@@ -90,10 +94,10 @@ impl PendingPacket {
     fn has_key(self, iface: u8, addr: Ipv6Addr) -> bool
         ensures { λ r. ⌜ r ≡ hasKey (key iface addr) self ⌝ }
     {
-        let a = self.addr;
-        let i = iface == self.iface;
-        let s = addr.same(a);
-        i & s
+        let own_addr = self.addr;
+        let same_iface = iface == self.iface;
+        let same_addr = addr.same(own_addr);
+        same_iface & same_addr
     }
 }
 
@@ -107,7 +111,7 @@ impl PendingQueue {
             addr: nowhere,
             handle: 0,
         };
-        let slots = [blank; 8];
+        let slots = [blank; PENDING_QUEUE_COUNT];
         PendingQueue {
             slots: slots,
             len: 0,
@@ -134,10 +138,10 @@ impl PendingQueue {
             addr: addr,
             handle: handle,
         };
-        let n = count_of(queue.len, 8);
-        if n < 8 {
-            queue.slots[n] = packet;
-            queue.len = n + 1;
+        let count = count_of(queue.len, PENDING_QUEUE_COUNT);
+        if count < PENDING_QUEUE_COUNT {
+            queue.slots[count] = packet;
+            queue.len = count + 1;
             return Pushed {
                 queue: queue,
                 answer: Push::Queued,
@@ -146,14 +150,14 @@ impl PendingQueue {
         let oldest = queue.slots[0];
         let mut hole = 0;
         let mut next = 1;
-        while next < n {
+        while next < count {
             let later = queue.slots[next];
             queue.slots[hole] = later;
             hole = next;
             next += 1;
         }
         queue.slots[hole] = packet;
-        queue.len = n;
+        queue.len = count;
         Pushed {
             queue: queue,
             answer: Push::Dropped(oldest.handle),
@@ -161,7 +165,7 @@ impl PendingQueue {
     }
 
     // Takes out the oldest packet of a key; later ones move down.
-    pub fn release(self, iface: u8, addr: Ipv6Addr) -> Released
+    pub fn release(mut self, iface: u8, addr: Ipv6Addr) -> Released
         ensures { λ r. ⌜ ReleasedTo self iface addr r ⌝ }
     {
         let check = check_iface(iface);
@@ -174,24 +178,23 @@ impl PendingQueue {
             }
             Check::Fine => {}
         }
-        let n = count_of(self.len, 8);
+        let count = count_of(self.len, PENDING_QUEUE_COUNT);
         let mut i = 0;
-        while i < n {
-            let p = self.slots[i];
-            if p.has_key(iface, addr) {
-                let mut queue = self;
+        while i < count {
+            let packet = self.slots[i];
+            if packet.has_key(iface, addr) {
                 let mut hole = i;
                 let mut next = i + 1;
-                while next < n {
-                    let later = queue.slots[next];
-                    queue.slots[hole] = later;
+                while next < count {
+                    let later = self.slots[next];
+                    self.slots[hole] = later;
                     hole = next;
                     next += 1;
                 }
-                queue.len = hole;
+                self.len = hole;
                 return Released {
-                    queue: queue,
-                    answer: Release::Handle(p.handle),
+                    queue: self,
+                    answer: Release::Handle(packet.handle),
                 };
             }
             i += 1;
@@ -204,44 +207,44 @@ impl PendingQueue {
 
     // Drops the packets that nothing will release: their key has no entry, or a stale one.
     pub fn purge_orphans(self, cache: NeighborCache) -> Purged
-        ensures { λ r. ⌜ r ≡ purgedOf self (orphaned (entries cache)) ⌝ }
+        ensures { λ r. ⌜ OrphansPurged self cache r ⌝ }
     {
         let mut queue = self;
-        let mut handles = [0u32; 8];
-        let n = count_of(queue.len, 8);
-        let k = count_of(cache.len, 16);
-        let mut m = 0;
-        let mut w = 0;
+        let mut handles = [0u32; PENDING_QUEUE_COUNT];
+        let count = count_of(queue.len, PENDING_QUEUE_COUNT);
+        let neighbors = count_of(cache.len, NEIGHBOR_CACHE_COUNT);
+        let mut dropped = 0;
+        let mut kept = 0;
         let mut i = 0;
-        while i < n {
-            let p = queue.slots[i];
-            let a = p.addr;
+        while i < count {
+            let packet = queue.slots[i];
+            let addr = packet.addr;
             let mut awaited = false;
             let mut j = 0;
-            while j < k {
-                let e = cache.slots[j];
-                if e.has_key(p.iface, a) {
-                    let s = e.state;
-                    awaited = is_awaited(s);
+            while j < neighbors {
+                let entry = cache.slots[j];
+                if entry.has_key(packet.iface, addr) {
+                    let state = entry.state;
+                    awaited = is_awaited(state);
                     break;
                 }
                 j += 1;
             }
             i += 1;
             if awaited {
-                queue.slots[w] = p;
-                w += 1;
+                queue.slots[kept] = packet;
+                kept += 1;
             } else {
-                handles[m] = p.handle;
-                m += 1;
+                handles[dropped] = packet.handle;
+                dropped += 1;
             }
         }
-        queue.len = w;
+        queue.len = kept;
         Purged {
             queue: queue,
             handles: Handles {
                 slots: handles,
-                len: m,
+                len: dropped,
             },
             outcome: Outcome::Done,
         }
@@ -252,7 +255,7 @@ impl PendingQueue {
         ensures { λ r. ⌜ PurgedTo self iface r ⌝ }
     {
         let mut queue = self;
-        let mut handles = [0u32; 8];
+        let mut handles = [0u32; PENDING_QUEUE_COUNT];
         let check = check_iface(iface);
         match check {
             Check::Refused(why) => {
@@ -267,27 +270,27 @@ impl PendingQueue {
             }
             Check::Fine => {}
         }
-        let n = count_of(queue.len, 8);
-        let mut m = 0;
-        let mut w = 0;
+        let count = count_of(queue.len, PENDING_QUEUE_COUNT);
+        let mut dropped = 0;
+        let mut kept = 0;
         let mut i = 0;
-        while i < n {
-            let p = queue.slots[i];
+        while i < count {
+            let packet = queue.slots[i];
             i += 1;
-            if iface == p.iface {
-                handles[m] = p.handle;
-                m += 1;
+            if iface == packet.iface {
+                handles[dropped] = packet.handle;
+                dropped += 1;
             } else {
-                queue.slots[w] = p;
-                w += 1;
+                queue.slots[kept] = packet;
+                kept += 1;
             }
         }
-        queue.len = w;
+        queue.len = kept;
         Purged {
             queue: queue,
             handles: Handles {
                 slots: handles,
-                len: m,
+                len: dropped,
             },
             outcome: Outcome::Done,
         }
@@ -295,12 +298,12 @@ impl PendingQueue {
 
     // The packet at an index, for a listing.
     pub fn at(self, index: usize) -> Waiting
-        ensures { λ r. ⌜ r ≡ atIndex self index ⌝ }
+        ensures { λ r. ⌜ WaitingAt self index r ⌝ }
     {
-        let n = count_of(self.len, 8);
-        if index < n {
-            let p = self.slots[index];
-            return Waiting::Is(p);
+        let count = count_of(self.len, PENDING_QUEUE_COUNT);
+        if index < count {
+            let packet = self.slots[index];
+            return Waiting::Is(packet);
         }
         Waiting::Nothing
     }

@@ -1,64 +1,126 @@
-// Runs each recorded case, 1.in, 2.in, .., and holds its output to 1.out, 2.out, ..
-use input::sink::Sink;
+// Runs each recorded case, 1.in, 2.in, .., and holds its output to 1.out, 2.out, .. Then two of them against answers that are wrong,
+// which shows that a difference is seen.
+use runner::Ended;
+use streams::sink::Sink;
+use streams::sink::Target;
+
+// More cases than there are.
+const MOST: u64 = 100000;
+
+// Cases that are held to wrong answers too: one whose output is a few lines, and one of several blocks.
+const SHORT: u64 = 1;
+
+const LONG: u64 = 589;
 
 pub enum Case {
     Same,
     Differs,
+    // there is no such case
     Missing,
+    // nothing is recorded to hold its output to
+    NoAnswer,
 }
 
 // Opens a file by the part of `path` that holds its name.
-fn open_part(path: &[u8], n: usize) -> i32 {
-    if n <= path.len() {
-        os::open_read(&path[..n])
+fn open_part(path: &[u8], len: usize) -> i32 {
+    if len <= path.len() {
+        os::open_read(&path[..len])
     } else {
         -1
     }
 }
 
-// Opens the file of case k whose name ends in suffix.
-fn open_case(k: u64, suffix: &[u8]) -> i32 {
+// Opens the file of a case whose name ends in suffix.
+fn open_case(number: u64, suffix: &[u8]) -> i32 {
     let mut path = [0u8; 32];
-    let a = text::print::number(&mut path, 0, k);
-    let b = text::print::word(&mut path, a, suffix);
-    open_part(&path, b)
+    let dot = text::print::number(&mut path, 0, number);
+    let len = text::print::word(&mut path, dot, suffix);
+    open_part(&path, len)
 }
 
 // The same code as the event program's, with its output compared as it comes.
-fn one_case(k: u64) -> Case {
-    let from = open_case(k, b".in");
+fn compared(from: i32, held: i32) -> Case {
+    let ran = runner::run(from, Sink::new(Target::Compare(held)));
+    let ended = ran.ended;
+    match ended {
+        Ended::Listed => Case::Same,
+        Ended::BadLine(_) => Case::Same,
+        Ended::NotRead => Case::Differs,
+        Ended::NotWritten => Case::Differs,
+    }
+}
+
+// One case, held to the file whose name ends in suffix.
+fn one_case(number: u64, suffix: &[u8]) -> Case {
+    let from = open_case(number, b".in");
     if from < 0 {
         return Case::Missing;
     }
-    let held = open_case(k, b".out");
+    let held = open_case(number, suffix);
     if held < 0 {
-        return Case::Differs;
+        libc::close(from);
+        return Case::NoAnswer;
     }
-    let same = driver::run(from, Sink::Compare(held));
+    let case = compared(from, held);
     libc::close(from);
     libc::close(held);
-    if same { Case::Same } else { Case::Differs }
+    case
 }
 
-fn main() {
-    let mut k: u64 = 0;
+fn name_case(what: &[u8], number: u64) {
+    io::write_all(1, what);
+    io::print_decimal(1, number);
+    io::write_all(1, b"\n");
+}
+
+fn count(some: u64, all: u64, what: &[u8]) {
+    io::print_decimal(1, some);
+    io::write_all(1, b" of ");
+    io::print_decimal(1, all);
+    io::write_all(1, what);
+}
+
+fn recorded() {
+    let mut number: u64 = 0;
     let mut same: u64 = 0;
-    while k < 100000 {
-        match one_case(k + 1) {
+    while number < MOST {
+        match one_case(number + 1, b".out") {
             Case::Same => {
                 same = std::num::wrapping_add_u64(same, 1);
             }
-            Case::Differs => {
-                io::write_all(1, b"differs: ");
-                io::print_decimal(1, k + 1);
-                io::write_all(1, b"\n");
-            }
+            Case::Differs => name_case(b"differs: ", number + 1),
+            Case::NoAnswer => name_case(b"no answer: ", number + 1),
             Case::Missing => break,
         }
-        k += 1;
+        number += 1;
     }
-    io::print_decimal(1, same);
-    io::write_all(1, b" of ");
-    io::print_decimal(1, k);
-    io::write_all(1, b" the same\n");
+    count(same, number, b" the same\n");
+}
+
+// 1 where the case is not as the file has it whose name ends in suffix, else 0.
+fn told_apart(number: u64, suffix: &[u8]) -> u64 {
+    match one_case(number, suffix) {
+        Case::Differs => 1,
+        Case::Same => 0,
+        Case::NoAnswer => 0,
+        Case::Missing => 0,
+    }
+}
+
+// A byte of the answer is changed; its last byte is missing; it has one more. And, of a long answer, a byte that is compared before the
+// last block.
+fn wrong() {
+    let changed = told_apart(SHORT, b".changed");
+    let short = told_apart(SHORT, b".short");
+    let long = told_apart(SHORT, b".long");
+    let early = told_apart(LONG, b".changed");
+    let two = std::num::wrapping_add_u64(changed, short);
+    let three = std::num::wrapping_add_u64(two, long);
+    let four = std::num::wrapping_add_u64(three, early);
+    count(four, 4, b" wrong answers told apart\n");
+}
+
+fn main() {
+    recorded();
+    wrong();
 }

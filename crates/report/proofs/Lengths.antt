@@ -1,4 +1,4 @@
--- How long the printed texts are at most: 1,040 bytes for an event, 4,096 for the state. Assumes nothing.
+-- How long the printed texts are at most: `eventMost` bytes for an event, `stateMost` for the state. Assumes nothing.
 use Prim.Native.Nat.{ℕ, zero, suc, _+_, _*_, _/_, _%_, _≤_}
 use lib.Dec.{ltb}
 use lib.ListN.{length, take, length-append}
@@ -15,13 +15,13 @@ use Rattle.iface.specs.declared.addr.Preferred.{Preferred}
 use Rattle.iface.specs.declared.route.Route.{Route}
 use Rattle.iface.specs.declared.route.RouteOrigin.the-variants.{Manual as Added, Slaac as Learned}
 use Rattle.iface.specs.declared.route.RouteOrigin.{RouteOrigin}
-use Rattle.learned.specs.declared.Prefix.{Prefix}
-use Rattle.learned.specs.declared.Router.{Router}
+use Rattle.slaac.specs.declared.Prefix.{Prefix}
+use Rattle.slaac.specs.declared.Router.{Router}
 use Rattle.neighbor.specs.declared.Entry.{Entry}
 use Rattle.neighbor.specs.declared.State.the-variants.{Started, Incomplete, Reachable, Stale}
 use Rattle.neighbor.specs.declared.State.{State}
-use Rattle.report.specs.AnswerLines.{newline, eachLine, solicitWord, refusedWord, offWord, badWord, retransmitWord, failedWord, solicitLine, refusedLine, offLine, badLine, probeLine, slotLine, probeLines}
-use Rattle.report.specs.StateLines.{headingLine, section, addressField, hardwareField, numberField, endField, prefixLine, routerLine, originField, preferredField, addrLine, routeOriginField, expiryField, routeLine, neighborField, neighborLine, prefixesText, routersText, addressesText, routesText, neighborsText, stateText, reachableWord, staleWord, dashWord, prefixesWord, routersWord, addressesWord, routesWord, neighborsWord}
+use Rattle.report.specs.AnswerLines.{newline, eachLine, solicitWord, refusedWord, offWord, badWord, retransmitWord, failedWord, solicitLine, refusedLine, offLine, badLine, addressLine, probeLine, slotLine, probeLines, eventMost}
+use Rattle.report.specs.StateLines.{headingLine, section, addressField, hardwareField, numberField, endField, prefixLine, routerLine, originField, preferredField, addrLine, routeOriginField, expiryField, routeLine, neighborField, neighborLine, prefixesText, routersText, addressesText, routesText, neighborsText, stateText, sectionMost, stateMost, reachableWord, staleWord, dashWord, prefixesWord, routersWord, addressesWord, routesWord, neighborsWord}
 use Rattle.sweep.specs.declared.Events.{Events}
 use Rattle.sweep.specs.declared.ProbeEvent.the-variants.{Retransmit, Failed}
 use Rattle.sweep.specs.declared.ProbeEvent.{ProbeEvent}
@@ -72,28 +72,29 @@ end = record { is = omega arith }
 
 -- ---- lines of an event
 
-pub solicit-short : (t : ℕ) (message : List ℕ) → length message ≤ 16 → Short (solicitLine t message) 1040
+pub solicit-short : (t : ℕ) (message : List ℕ) → length message ≤ 16 → Short (solicitLine t message) eventMost
 unfolding solicitLine
 solicit-short t message h =
-    at-most 1040 (then (then (then {b = solicitWord} {n = 9} (number t) (record { is = omega arith })) (hex-of message 16 h)) end) (omega arith)
+    at-most eventMost (then (then (then {b = solicitWord} {n = 9} (number t) (record { is = omega arith })) (hex-of message 16 h)) end) (omega arith)
 
-pub refused-short : (t n : ℕ) → Short (refusedLine t n) 1040
+pub refused-short : (t n : ℕ) → Short (refusedLine t n) eventMost
 unfolding refusedLine
-refused-short t n = at-most 1040 (then (then (then {b = refusedWord} {n = 9} (number t) (record { is = omega arith })) (number n)) end) (omega arith)
+refused-short t n = at-most eventMost (then (then (then {b = refusedWord} {n = 9} (number t) (record { is = omega arith })) (number n)) end) (omega arith)
 
-pub off-short : (t : ℕ) → Short (offLine t) 1040
+pub off-short : (t : ℕ) → Short (offLine t) eventMost
 unfolding offLine
-off-short t = at-most 1040 (then {b = offWord} {n = 5} (number t) (record { is = omega arith })) (omega arith)
+off-short t = at-most eventMost (then {b = offWord} {n = 5} (number t) (record { is = omega arith })) (omega arith)
 
 pub bad-short : (n : ℕ) → Short (badLine n) 30
 unfolding badLine
 bad-short n = then (then {a = badWord} {m = 9} (record { is = omega arith }) (number n)) end
 
+word-short : (t : ℕ) (word : List ℕ) (a : Ipv6Addr) → length word ≤ 12 → Short (addressLine t word a) 65
+word-short t word a h = then (then (then {b = word} {n = 12} (number t) (record { is = h })) (hex-of (addressBytes a) 16 (omega arith))) end
+
 probe-short : (t : ℕ) (v : ProbeEvent) → Short (probeLine t v) 65
-probe-short t (Retransmit a) =
-    at-most 65 (then (then (then {b = retransmitWord} {n = 12} (number t) (record { is = omega arith })) (hex-of (addressBytes a) 16 (omega arith))) end) (omega arith)
-probe-short t (Failed a) =
-    at-most 65 (then (then (then {b = failedWord} {n = 12} (number t) (record { is = omega arith })) (hex-of (addressBytes a) 16 (omega arith))) end) (omega arith)
+probe-short t (Retransmit a) = word-short t retransmitWord a (omega arith)
+probe-short t (Failed a) = word-short t failedWord a (omega arith)
 
 mul-more : (a b : ℕ) → a * suc b ≡ a + a * b
 mul-more a b = simp unary-clauses (omega arith)
@@ -103,7 +104,7 @@ each-short line m w [] n h = record { is = omega arith }
 each-short line m w (x ∷ xs) zero h = absurd (omega arith)
 each-short line m w (x ∷ xs) (suc n) h = rw (mul-more m n) (then (w x) (each-short line m w xs n (omega arith)))
 
-pub probes-short : (t : ℕ) (v : Events) → length (take (v .len) (v .slots)) ≤ 16 → length (probeLines t v) ≤ 1040
+pub probes-short : (t : ℕ) (v : Events) → length (take (v .len) (v .slots)) ≤ 16 → length (probeLines t v) ≤ eventMost
 unfolding probeLines
 probes-short t v h = each-short (slotLine t) 65 (λ e. probe-short t (e .event)) (take (v .len) (v .slots)) 16 h .is
 
@@ -183,30 +184,30 @@ section-short : {A : Type 0} (name : List ℕ) (line : A → List ℕ) (es : Lis
     → Short (section name line es) (31 + 96 * n)
 section-short name line es n h w k = then (heading-short name (length es) h) (each-short line 96 w es n k)
 
-pub prefixes-short : (ps : List Prefix) → length ps ≤ 4 → length (prefixesText ps) ≤ 415
+pub prefixes-short : (ps : List Prefix) → length ps ≤ 4 → length (prefixesText ps) ≤ sectionMost 4
 unfolding prefixesText
 prefixes-short ps h = section-short prefixesWord prefixLine ps 4 (omega arith) prefix-short h .is
 
-pub routers-short : (rs : List Router) → length rs ≤ 2 → length (routersText rs) ≤ 223
+pub routers-short : (rs : List Router) → length rs ≤ 2 → length (routersText rs) ≤ sectionMost 2
 unfolding routersText
 routers-short rs h = section-short routersWord routerLine rs 2 (omega arith) router-short h .is
 
-pub addresses-short : (es : List IfaceAddr) → length es ≤ 8 → length (addressesText es) ≤ 799
+pub addresses-short : (es : List IfaceAddr) → length es ≤ 8 → length (addressesText es) ≤ sectionMost 8
 unfolding addressesText
 addresses-short es h = section-short addressesWord addrLine es 8 (omega arith) addr-short h .is
 
-pub routes-short : (es : List Route) → length es ≤ 8 → length (routesText es) ≤ 799
+pub routes-short : (es : List Route) → length es ≤ 8 → length (routesText es) ≤ sectionMost 8
 unfolding routesText
 routes-short es h = section-short routesWord routeLine es 8 (omega arith) route-short h .is
 
-pub neighbors-short : (es : List Entry) → length es ≤ 16 → length (neighborsText es) ≤ 1567
+pub neighbors-short : (es : List Entry) → length es ≤ 16 → length (neighborsText es) ≤ sectionMost 16
 unfolding neighborsText
 neighbors-short es h = section-short neighborsWord neighborLine es 16 (omega arith) neighbor-short h .is
 
 -- the whole state, of sections that are as short
-pub state-short : (ps : List Prefix) (rs : List Router) (es : List IfaceAddr) (os : List Route) (ns : List Entry) → length (prefixesText ps) ≤ 415
-    → length (routersText rs) ≤ 223 → length (addressesText es) ≤ 799 → length (routesText os) ≤ 799 → length (neighborsText ns) ≤ 1567
-    → length (stateText ps rs es os ns) ≤ 4096
+pub state-short : (ps : List Prefix) (rs : List Router) (es : List IfaceAddr) (os : List Route) (ns : List Entry) → length (prefixesText ps) ≤ sectionMost 4
+    → length (routersText rs) ≤ sectionMost 2 → length (addressesText es) ≤ sectionMost 8 → length (routesText os) ≤ sectionMost 8 → length (neighborsText ns) ≤ sectionMost 16
+    → length (stateText ps rs es os ns) ≤ stateMost
 unfolding stateText
 state-short ps rs es os ns hp hr he ho hn =
     let s : Short (stateText ps rs es os ns) 3803 =

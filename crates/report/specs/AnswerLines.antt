@@ -1,6 +1,6 @@
 -- Document 01: "each line printed for it" begins with the event's time: "`solicit` with the message, `retransmit` or `failed` with an address,
 -- `refused` with a number, `off` for an answer Off; otherwise nothing". Assumes nothing.
-use Prim.Native.Nat.{ℕ, _≤_}
+use Prim.Native.Nat.{ℕ, _+_, _*_, _≤_}
 use mathlib.Core.List.{List, [], _∷_, _++_}
 use lib.ListN.{length, take}
 use Rattle.text.specs.Place.{Put}
@@ -59,9 +59,13 @@ offLine t = decimal t ++ offWord
 unfoldable pub badLine : ℕ → List ℕ
 badLine n = (badWord ++ decimal n) ++ newline
 
+-- a word and an address
+abbrev pub addressLine : ℕ → List ℕ → Ipv6Addr → List ℕ
+addressLine t word a = ((decimal t ++ word) ++ hexed (addressBytes a)) ++ newline
+
 abbrev pub probeLine : ℕ → ProbeEvent → List ℕ
-probeLine t (Retransmit a) = ((decimal t ++ retransmitWord) ++ hexed (addressBytes a)) ++ newline
-probeLine t (Failed a) = ((decimal t ++ failedWord) ++ hexed (addressBytes a)) ++ newline
+probeLine t (Retransmit a) = addressLine t retransmitWord a
+probeLine t (Failed a) = addressLine t failedWord a
 
 abbrev pub slotLine : ℕ → EventSlot → List ℕ
 slotLine t e = probeLine t (e .event)
@@ -69,3 +73,8 @@ slotLine t e = probeLine t (e .event)
 -- the events of a sweep
 unfoldable pub probeLines : ℕ → Events → List ℕ
 probeLines t v = eachLine (slotLine t) (take (v .len) (v .slots))
+
+-- what an event prints at most: the sixteen events of a sweep, each with a time of at most 20 digits, a word of at most 12 bytes with its spaces,
+-- the 32 digits of an address, and the line's end
+abbrev pub eventMost : ℕ
+eventMost = 16 * (20 + 12 + 32 + 1)

@@ -1,7 +1,7 @@
 -- Document 01: "Then the state", by its fields: "prefix, length, preferred, valid; router, expiry; address, length, origin, preferred (`-`
 -- application's, `never` run out); via, origin, expiry; neighbour, state (`incomplete`, `reachable`, `stale`), hardware address, expiry (`-` if
 -- none)". Request 2026-01: "the listing prints `forever`", for a prefix's two times and an address's preferred. Assumes nothing.
-use Prim.Native.Nat.{ℕ}
+use Prim.Native.Nat.{ℕ, _+_, _*_}
 use mathlib.Core.List.{List, [], _∷_, _++_}
 use lib.ListN.{length}
 use Rattle.text.specs.Decimal.{decimal}
@@ -12,8 +12,8 @@ use Rattle.wire.specs.Rfc4291.{addressBytes}
 use Rattle.wire.specs.Rfc2464.{hardwareBytes}
 use Rattle.wire.specs.declared.ipv6.Ipv6Addr.{Ipv6Addr}
 use Rattle.wire.specs.declared.ethernet.HardwareAddress.{HardwareAddress}
-use Rattle.learned.specs.declared.Prefix.{Prefix}
-use Rattle.learned.specs.declared.Router.{Router}
+use Rattle.slaac.specs.declared.Prefix.{Prefix}
+use Rattle.slaac.specs.declared.Router.{Router}
 use Rattle.iface.specs.declared.addr.AddrOrigin.{AddrOrigin}
 use Rattle.iface.specs.declared.addr.AddrOrigin.the-variants.{Manual, Slaac}
 use Rattle.iface.specs.declared.addr.Preferred.{Preferred}
@@ -141,6 +141,11 @@ neighborField s = listedField (listedState s)
 unfoldable pub neighborLine : Entry → List ℕ
 neighborLine e = (addressField (e .addr) ++ neighborField (e .state)) ++ newline
 
+-- what a section of a table of that size has at most. A heading: a name of at most 10 bytes with its space, a count of at most 20 digits, and the
+-- line's end. A line: the 32 digits of an address, 63 bytes of further fields (of a prefix three numbers, each with a space in front), and its end
+abbrev pub sectionMost : ℕ → ℕ
+sectionMost size = (10 + 20 + 1) + (32 + 3 * 21 + 1) * size
+
 -- the sections, in their order
 unfoldable pub prefixesText : List Prefix → List ℕ
 prefixesText ps = section prefixesWord prefixLine ps
@@ -159,3 +164,7 @@ neighborsText es = section neighborsWord neighborLine es
 
 unfoldable pub stateText : List Prefix → List Router → List IfaceAddr → List Route → List Entry → List ℕ
 stateText ps rs es os ns = (((prefixesText ps ++ routersText rs) ++ addressesText es) ++ routesText os) ++ neighborsText ns
+
+-- the five sections have at most 415 + 223 + 799 + 799 + 1,567 = 3,803 bytes, and so no more than these
+abbrev pub stateMost : ℕ
+stateMost = 4096

@@ -1,43 +1,48 @@
 // The state, listed: a line with its count for each table, and a line for each entry.
 ghost use Rattle.text.specs.Place.{Put};
-ghost use Rattle.learned.specs.LearnedRules.{prefixesOf, routersOf};
+ghost use Rattle.slaac.specs.LearnedRules.{prefixesOf, routersOf};
 ghost use Rattle.iface.specs.AddressRules.{addrsOf};
 ghost use Rattle.iface.specs.RouteRules.{routesOf};
 ghost use Rattle.neighbor.specs.CacheCalls.{entries};
 ghost use Rattle.report.specs.AnswerLines.{Printed};
-ghost use Rattle.report.specs.StateLines.{headingLine, numberField, endField, prefixLine, routerLine, originField, preferredField, addrLine, routeOriginField, expiryField, routeLine, neighborField, neighborLine, prefixesText, routersText, addressesText, routesText, neighborsText};
+ghost use Rattle.report.specs.StateLines.{headingLine, numberField, endField, prefixLine, routerLine, originField, preferredField, addrLine, routeOriginField, expiryField, routeLine, neighborField, neighborLine, prefixesText, routersText, addressesText, routesText, neighborsText, sectionMost};
 use iface::addr::AddrOrigin;
+use iface::addr::IFACE_ADDR_COUNT;
 use iface::addr::IfaceAddr;
 use iface::addr::IfaceAddrs;
 use iface::addr::Preferred;
+use iface::route::ROUTE_COUNT;
 use iface::route::Route;
 use iface::route::RouteOrigin;
 use iface::route::Routes;
-use learned::Prefix;
-use learned::Router;
-use learned::Slaac;
 use neighbor::Entry;
+use neighbor::NEIGHBOR_CACHE_COUNT;
 use neighbor::NeighborCache;
 use neighbor::State;
+use slaac::Prefix;
+use slaac::Router;
+use slaac::SLAAC_PREFIX_COUNT;
+use slaac::SLAAC_ROUTER_COUNT;
+use slaac::Slaac;
 use table::count_of;
 use text::print;
 use time::Expiry;
 
 // A table's name and its count.
-fn heading(out: &mut [u8], at: usize, name: &[u8], n: usize) -> usize
-    ensures { λ r. ⌜ Put (now (out .entry)) at (headingLine (now (name .entry)) n) r (now (out .exit)) ⌝ }
+fn heading(out: &mut [u8], at: usize, name: &[u8], count: usize) -> usize
+    ensures { λ r. ⌜ Put (now (out .entry)) at (headingLine (now (name .entry)) count) r (now (out .exit)) ⌝ }
 {
-    let a = print::word(out, at, name);
-    let b = print::number(out, a, n as u64);
-    print::byte(out, b, b'\n')
+    let after_name = print::word(out, at, name);
+    let after_count = print::number(out, after_name, count as u64);
+    print::byte(out, after_count, b'\n')
 }
 
 // A number as a further field.
-fn number_field(out: &mut [u8], at: usize, n: u64) -> usize
-    ensures { λ r. ⌜ Put (now (out .entry)) at (numberField n) r (now (out .exit)) ⌝ }
+fn number_field(out: &mut [u8], at: usize, value: u64) -> usize
+    ensures { λ r. ⌜ Put (now (out .entry)) at (numberField value) r (now (out .exit)) ⌝ }
 {
-    let a = print::byte(out, at, b' ');
-    print::number(out, a, n)
+    let after_space = print::byte(out, at, b' ');
+    print::number(out, after_space, value)
 }
 
 // When something ends, as a further field.
@@ -45,58 +50,58 @@ fn end_field(out: &mut [u8], at: usize, end: Expiry) -> usize
     ensures { λ r. ⌜ Put (now (out .entry)) at (endField end) r (now (out .exit)) ⌝ }
 {
     match end {
-        Expiry::At(t) => number_field(out, at, t.0),
+        Expiry::At(time) => number_field(out, at, time.0),
         Expiry::Forever => print::word(out, at, b" forever"),
     }
 }
 
 // Prefix, length, preferred, valid.
-fn prefix_line(out: &mut [u8], at: usize, p: Prefix) -> usize
-    ensures { λ r. ⌜ Put (now (out .entry)) at (prefixLine p) r (now (out .exit)) ⌝ }
+fn prefix_line(out: &mut [u8], at: usize, prefix: Prefix) -> usize
+    ensures { λ r. ⌜ Put (now (out .entry)) at (prefixLine prefix) r (now (out .exit)) ⌝ }
 {
-    let addr = p.cidr.address;
-    let preferred = p.preferred_until;
-    let valid = p.valid_until;
-    let a = print::address(out, at, addr);
-    let b = number_field(out, a, p.cidr.prefix_len as u64);
-    let c = end_field(out, b, preferred);
-    let d = end_field(out, c, valid);
-    print::byte(out, d, b'\n')
+    let addr = prefix.cidr.address;
+    let preferred = prefix.preferred_until;
+    let valid = prefix.valid_until;
+    let after_addr = print::address(out, at, addr);
+    let after_len = number_field(out, after_addr, prefix.cidr.prefix_len as u64);
+    let after_preferred = end_field(out, after_len, preferred);
+    let after_valid = end_field(out, after_preferred, valid);
+    print::byte(out, after_valid, b'\n')
 }
 
 pub fn prefixes(out: &mut [u8], at: usize, slaac: Slaac) -> usize
-    ensures { λ r. ⌜ Printed (prefixesText (prefixesOf slaac)) 415 (now (out .entry)) at r (now (out .exit)) ⌝ }
+    ensures { λ r. ⌜ Printed (prefixesText (prefixesOf slaac)) (sectionMost 4) (now (out .entry)) at r (now (out .exit)) ⌝ }
 {
-    let k = count_of(slaac.prefix_count, 4);
-    let mut next = heading(out, at, b"prefixes ", k);
+    let count = count_of(slaac.prefix_count, SLAAC_PREFIX_COUNT);
+    let mut next = heading(out, at, b"prefixes ", count);
     let mut i = 0;
-    while i < k {
-        let e = slaac.prefixes[i];
-        next = prefix_line(out, next, e);
+    while i < count {
+        let prefix = slaac.prefixes[i];
+        next = prefix_line(out, next, prefix);
         i += 1;
     }
     next
 }
 
 // Router, expiry.
-fn router_line(out: &mut [u8], at: usize, p: Router) -> usize
-    ensures { λ r. ⌜ Put (now (out .entry)) at (routerLine p) r (now (out .exit)) ⌝ }
+fn router_line(out: &mut [u8], at: usize, router: Router) -> usize
+    ensures { λ r. ⌜ Put (now (out .entry)) at (routerLine router) r (now (out .exit)) ⌝ }
 {
-    let addr = p.addr;
-    let a = print::address(out, at, addr);
-    let b = number_field(out, a, p.valid_until.0);
-    print::byte(out, b, b'\n')
+    let addr = router.addr;
+    let after_addr = print::address(out, at, addr);
+    let after_expiry = number_field(out, after_addr, router.valid_until.0);
+    print::byte(out, after_expiry, b'\n')
 }
 
 pub fn routers(out: &mut [u8], at: usize, slaac: Slaac) -> usize
-    ensures { λ r. ⌜ Printed (routersText (routersOf slaac)) 223 (now (out .entry)) at r (now (out .exit)) ⌝ }
+    ensures { λ r. ⌜ Printed (routersText (routersOf slaac)) (sectionMost 2) (now (out .entry)) at r (now (out .exit)) ⌝ }
 {
-    let k = count_of(slaac.router_count, 2);
-    let mut next = heading(out, at, b"routers ", k);
+    let count = count_of(slaac.router_count, SLAAC_ROUTER_COUNT);
+    let mut next = heading(out, at, b"routers ", count);
     let mut i = 0;
-    while i < k {
-        let e = slaac.routers[i];
-        next = router_line(out, next, e);
+    while i < count {
+        let router = slaac.routers[i];
+        next = router_line(out, next, router);
         i += 1;
     }
     next
@@ -122,28 +127,28 @@ fn preferred_field(out: &mut [u8], at: usize, preferred: Preferred) -> usize
 }
 
 // Address, length, origin, preferred.
-fn addr_line(out: &mut [u8], at: usize, e: IfaceAddr) -> usize
-    ensures { λ r. ⌜ Put (now (out .entry)) at (addrLine e) r (now (out .exit)) ⌝ }
+fn addr_line(out: &mut [u8], at: usize, entry: IfaceAddr) -> usize
+    ensures { λ r. ⌜ Put (now (out .entry)) at (addrLine entry) r (now (out .exit)) ⌝ }
 {
-    let addr = e.cidr.address;
-    let origin = e.origin;
-    let preferred = e.preferred;
-    let a = print::address(out, at, addr);
-    let b = number_field(out, a, e.cidr.prefix_len as u64);
-    let c = origin_field(out, b, origin);
-    let d = preferred_field(out, c, preferred);
-    print::byte(out, d, b'\n')
+    let addr = entry.cidr.address;
+    let origin = entry.origin;
+    let preferred = entry.preferred;
+    let after_addr = print::address(out, at, addr);
+    let after_len = number_field(out, after_addr, entry.cidr.prefix_len as u64);
+    let after_origin = origin_field(out, after_len, origin);
+    let after_preferred = preferred_field(out, after_origin, preferred);
+    print::byte(out, after_preferred, b'\n')
 }
 
 pub fn addresses(out: &mut [u8], at: usize, addrs: IfaceAddrs) -> usize
-    ensures { λ r. ⌜ Printed (addressesText (addrsOf addrs)) 799 (now (out .entry)) at r (now (out .exit)) ⌝ }
+    ensures { λ r. ⌜ Printed (addressesText (addrsOf addrs)) (sectionMost 8) (now (out .entry)) at r (now (out .exit)) ⌝ }
 {
-    let k = count_of(addrs.len, 8);
-    let mut next = heading(out, at, b"addresses ", k);
+    let count = count_of(addrs.len, IFACE_ADDR_COUNT);
+    let mut next = heading(out, at, b"addresses ", count);
     let mut i = 0;
-    while i < k {
-        let e = addrs.slots[i];
-        next = addr_line(out, next, e);
+    while i < count {
+        let entry = addrs.slots[i];
+        next = addr_line(out, next, entry);
         i += 1;
     }
     next
@@ -163,32 +168,32 @@ fn expiry_field(out: &mut [u8], at: usize, expiry: Expiry) -> usize
 {
     match expiry {
         Expiry::Forever => print::word(out, at, b" -"),
-        Expiry::At(t) => number_field(out, at, t.0),
+        Expiry::At(time) => number_field(out, at, time.0),
     }
 }
 
 // Via, origin, expiry.
-fn route_line(out: &mut [u8], at: usize, e: Route) -> usize
-    ensures { λ r. ⌜ Put (now (out .entry)) at (routeLine e) r (now (out .exit)) ⌝ }
+fn route_line(out: &mut [u8], at: usize, route: Route) -> usize
+    ensures { λ r. ⌜ Put (now (out .entry)) at (routeLine route) r (now (out .exit)) ⌝ }
 {
-    let via = e.via_router;
-    let origin = e.origin;
-    let expiry = e.expires_at;
-    let a = print::address(out, at, via);
-    let b = route_origin_field(out, a, origin);
-    let c = expiry_field(out, b, expiry);
-    print::byte(out, c, b'\n')
+    let via = route.via_router;
+    let origin = route.origin;
+    let expiry = route.expires_at;
+    let after_via = print::address(out, at, via);
+    let after_origin = route_origin_field(out, after_via, origin);
+    let after_expiry = expiry_field(out, after_origin, expiry);
+    print::byte(out, after_expiry, b'\n')
 }
 
 pub fn routes(out: &mut [u8], at: usize, table: Routes) -> usize
-    ensures { λ r. ⌜ Printed (routesText (routesOf table)) 799 (now (out .entry)) at r (now (out .exit)) ⌝ }
+    ensures { λ r. ⌜ Printed (routesText (routesOf table)) (sectionMost 8) (now (out .entry)) at r (now (out .exit)) ⌝ }
 {
-    let k = count_of(table.len, 8);
-    let mut next = heading(out, at, b"routes ", k);
+    let count = count_of(table.len, ROUTE_COUNT);
+    let mut next = heading(out, at, b"routes ", count);
     let mut i = 0;
-    while i < k {
-        let e = table.slots[i];
-        next = route_line(out, next, e);
+    while i < count {
+        let route = table.slots[i];
+        next = route_line(out, next, route);
         i += 1;
     }
     next
@@ -208,38 +213,38 @@ fn neighbor_fields(out: &mut [u8], at: usize, state: State) -> usize
             hardware_addr,
             expires_at,
         } => {
-            let a = print::word(out, at, b" reachable ");
-            let b = print::hardware(out, a, hardware_addr);
-            number_field(out, b, expires_at.0)
+            let after_word = print::word(out, at, b" reachable ");
+            let after_hardware = print::hardware(out, after_word, hardware_addr);
+            number_field(out, after_hardware, expires_at.0)
         }
         State::Stale { hardware_addr } => {
-            let a = print::word(out, at, b" stale ");
-            let b = print::hardware(out, a, hardware_addr);
-            print::word(out, b, b" -")
+            let after_word = print::word(out, at, b" stale ");
+            let after_hardware = print::hardware(out, after_word, hardware_addr);
+            print::word(out, after_hardware, b" -")
         }
     }
 }
 
 // Neighbour, state, hardware address, expiry.
-fn neighbor_line(out: &mut [u8], at: usize, e: Entry) -> usize
-    ensures { λ r. ⌜ Put (now (out .entry)) at (neighborLine e) r (now (out .exit)) ⌝ }
+fn neighbor_line(out: &mut [u8], at: usize, entry: Entry) -> usize
+    ensures { λ r. ⌜ Put (now (out .entry)) at (neighborLine entry) r (now (out .exit)) ⌝ }
 {
-    let addr = e.addr;
-    let state = e.state;
-    let a = print::address(out, at, addr);
-    let b = neighbor_fields(out, a, state);
-    print::byte(out, b, b'\n')
+    let addr = entry.addr;
+    let state = entry.state;
+    let after_addr = print::address(out, at, addr);
+    let after_state = neighbor_fields(out, after_addr, state);
+    print::byte(out, after_state, b'\n')
 }
 
 pub fn neighbors(out: &mut [u8], at: usize, cache: NeighborCache) -> usize
-    ensures { λ r. ⌜ Printed (neighborsText (entries cache)) 1567 (now (out .entry)) at r (now (out .exit)) ⌝ }
+    ensures { λ r. ⌜ Printed (neighborsText (entries cache)) (sectionMost 16) (now (out .entry)) at r (now (out .exit)) ⌝ }
 {
-    let k = count_of(cache.len, 16);
-    let mut next = heading(out, at, b"neighbors ", k);
+    let count = count_of(cache.len, NEIGHBOR_CACHE_COUNT);
+    let mut next = heading(out, at, b"neighbors ", count);
     let mut i = 0;
-    while i < k {
-        let e = cache.slots[i];
-        next = neighbor_line(out, next, e);
+    while i < count {
+        let entry = cache.slots[i];
+        next = neighbor_line(out, next, entry);
         i += 1;
     }
     next

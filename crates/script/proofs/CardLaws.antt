@@ -4,18 +4,18 @@ use lib.ListN.{length, take}
 use lib.Seq.{length-take-le}
 use mathlib.Core.Bool.{true, false}
 use mathlib.Core.List.{List, []}
-use mathlib.Core.Path.{_≡_, refl, sym, ap, ap₂, _∙_}
+use mathlib.Core.Path.{_≡_, sym, ap, ap₂, _∙_}
 use native.Mathlib.Omega.{arith}
 use Rattle.iface.specs.AddressRules.{emptyAddrs, addrsOf}
 use Rattle.iface.specs.RouteRules.{emptyRoutes, routesOf}
 use Rattle.iface.specs.declared.addr.IfaceAddrs.{IfaceAddrs}
 use Rattle.iface.specs.declared.route.Routes.{Routes}
-use Rattle.learned.specs.DiscoveryRules.{fresh, RestartedTo}
-use Rattle.learned.specs.LearnedRules.{prefixesOf, routersOf}
-use Rattle.learned.specs.declared.Changed.{Changed as Restarted}
-use Rattle.learned.specs.declared.Slaac.{Slaac}
+use Rattle.slaac.specs.DiscoveryRules.{fresh, RestartedTo}
+use Rattle.slaac.specs.LearnedRules.{prefixesOf, routersOf}
+use Rattle.slaac.specs.declared.Changed.{Changed as Restarted}
+use Rattle.slaac.specs.declared.Slaac.{Slaac}
 use Rattle.lines.specs.EventLines.{ReadyEvent}
-use Rattle.lines.specs.declared.event.Event.the-variants.{Up, Down, Poll, Sweep, Off, Ra, Start, Fill, Remove}
+use Rattle.lines.specs.declared.event.Event.the-variants.{Ra, Remove}
 use Rattle.lines.specs.declared.event.Event.{Event}
 use Rattle.neighbor.specs.CacheCalls.{empty, entries, startTo, fillTo, RemovedTo}
 use Rattle.neighbor.specs.declared.Changed.{Changed}
@@ -24,20 +24,20 @@ use Rattle.neighbor.specs.declared.Removed.{Removed}
 use Rattle.pending.specs.QueueCalls.{empty as noPackets}
 use Rattle.pending.specs.declared.PendingQueue.{PendingQueue}
 use Rattle.report.proofs.Lengths.{Short, state-short}
-use Rattle.report.specs.AnswerLines.{Printed}
-use Rattle.report.specs.StateLines.{prefixesText, routersText, addressesText, routesText, neighborsText, stateText}
-use Rattle.script.proofs.AnswerLaws.{poll-short, ra-short, change-short}
-use Rattle.script.specs.AnswerRules.{pollText, raText, changeText, sweepText}
+use Rattle.report.specs.AnswerLines.{Printed, eventMost}
+use Rattle.report.specs.StateLines.{prefixesText, routersText, addressesText, routesText, neighborsText, stateText, sectionMost}
+use Rattle.script.proofs.PrintedLaws.{poll-short, ra-short, change-short}
+use Rattle.script.specs.PrintedRules.{pollText, raText, changeText, sweepText}
 use Rattle.script.specs.CardRules.{DidCache, CachedTo, startCache, fillCache, sweepCache, removeCache, Did, did, onCache, cardOf, newCard, withCache, instant, upCard, polledCard, sixteen, pollCard, heardCard, raCard, leftCard, offCard, carryOut, messageFor, Fits, CarriedTo, listedText, Listed}
 use Rattle.script.specs.declared.card.Card.{Card}
 use Rattle.script.specs.declared.card.Carried.{Carried}
 use Rattle.script.specs.declared.neighbors.Cached.{Cached}
-use Rattle.slaac.specs.OffRules.{TurnedOffTo}
-use Rattle.slaac.specs.PollRules.{PolledTo}
-use Rattle.slaac.specs.SlaacRules.{AdvertisedTo}
-use Rattle.slaac.specs.declared.Advertised.{Advertised}
-use Rattle.slaac.specs.declared.PolledAt.{PolledAt}
-use Rattle.slaac.specs.declared.TurnedOff.{TurnedOff}
+use Rattle.autoconf.specs.OffRules.{TurnedOffTo}
+use Rattle.autoconf.specs.PollRules.{PolledTo}
+use Rattle.autoconf.specs.AdvertRules.{AdvertisedTo}
+use Rattle.autoconf.specs.declared.Advertised.{Advertised}
+use Rattle.autoconf.specs.declared.PolledAt.{PolledAt}
+use Rattle.autoconf.specs.declared.TurnedOff.{TurnedOff}
 use Rattle.sweep.specs.SweepCalls.{SweptTo}
 use Rattle.sweep.specs.declared.Swept.{Swept}
 use Rattle.text.proofs.PlaceLaws.{put-as, put-none, chain}
@@ -49,7 +49,7 @@ use Rattle.wire.specs.declared.ipv6.Ipv6Addr.{Ipv6Addr}
 
 -- ---- the neighbours
 
-cached : (d : DidCache) {c : NeighborCache} {text out out' : List ℕ} {at r : ℕ} → c ≡ d .cache → text ≡ d .text → Put out at text r out' → Short text 1040
+cached : (d : DidCache) {c : NeighborCache} {text out out' : List ℕ} {at r : ℕ} → c ≡ d .cache → text ≡ d .text → Put out at text r out' → Short text eventMost
     → CachedTo d out at (record { cache = c; at = r }) out'
 cached d p q w s = record { cache = p; put = put-as q w; short = rw (← q) (s .is) }
 
@@ -66,7 +66,7 @@ fill-done c t a h p w v =
     cached (fillCache c t a h) (ap (λ (q : Changed). q .cache) (w .is)) (ap (λ (q : Changed). changeText t (q .outcome)) (w .is)) v (change-short t (p .outcome))
 
 pub sweep-done : (c : NeighborCache) (t : ℕ) (k : Clock) (p : Swept) {out out' : List ℕ} {at r : ℕ} → k ≡ idle (instant t) → SweptTo c k 0 p
-    → Printed (sweepText t (p .outcome) (p .events)) 1040 out at r out' → CachedTo (sweepCache c t) out at (record { cache = p .cache; at = r }) out'
+    → Printed (sweepText t (p .outcome) (p .events)) eventMost out at r out' → CachedTo (sweepCache c t) out at (record { cache = p .cache; at = r }) out'
 unfolding sweepCache
 sweep-done c t k p e w v =
     let s : SweptTo c (idle (instant t)) 0 p = rw e at w in
@@ -93,7 +93,7 @@ off-card x q p e w =
     let v : TurnedOffTo (x .slaac) (x .addrs) (x .routes) (x .cache) noPackets 0 p = rw e at w in
     ap (leftCard x) (v .is)
 
-carried : (d : Did) {x : Card} {text out out' : List ℕ} {at r : ℕ} → x ≡ d .card → text ≡ d .text → Put out at text r out' → Short text 1040
+carried : (d : Did) {x : Card} {text out out' : List ℕ} {at r : ℕ} → x ≡ d .card → text ≡ d .text → Put out at text r out' → Short text eventMost
     → CarriedTo d out at (record { card = x; at = r }) out'
 carried d p q w s = record { card = p; put = put-as q w; short = rw (← q) (s .is) }
 
@@ -138,32 +138,13 @@ module _ (x : Card) (t : ℕ) (v : Event) (message : List ℕ) where
 
 -- the message that was read is the one that is carried out
 pub heard : (x : Card) (t : ℕ) (e : Event) (message bs : List ℕ) → ReadyEvent message bs e → carryOut x t e (messageFor e message) ≡ carryOut x t e bs
-heard x t Up message bs w = refl
-heard x t Down message bs w = refl
-heard x t Poll message bs w = refl
-heard x t Sweep message bs w = refl
-heard x t Off message bs w = refl
-heard x t (Ra source n) message bs w = ap (raCard x t source) (w .1)
-heard x t (Start a) message bs w = refl
-heard x t (Fill a h) message bs w = refl
-heard x t (Remove a) message bs w = refl
-
-pub fits : (e : Event) (message bs : List ℕ) → ReadyEvent message bs e → Fits (length message) e
-fits Up message bs w = tt
-fits Down message bs w = tt
-fits Poll message bs w = tt
-fits Sweep message bs w = tt
-fits Off message bs w = tt
-fits (Ra source n) message bs w = w .0
-fits (Start a) message bs w = tt
-fits (Fill a h) message bs w = tt
-fits (Remove a) message bs w = tt
+heard x t e message bs w = ap (carryOut x t e) (w .1)
 
 -- ---- the listing
 
-pub listed : (x : Card) {out out₁ out₂ out₃ out₄ out₅ : List ℕ} {at a b c d r : ℕ} → Printed (prefixesText (prefixesOf (x .slaac))) 415 out at a out₁
-    → Printed (routersText (routersOf (x .slaac))) 223 out₁ a b out₂ → Printed (addressesText (addrsOf (x .addrs))) 799 out₂ b c out₃
-    → Printed (routesText (routesOf (x .routes))) 799 out₃ c d out₄ → Printed (neighborsText (entries (x .cache))) 1567 out₄ d r out₅ → Listed x out at r out₅
+pub listed : (x : Card) {out out₁ out₂ out₃ out₄ out₅ : List ℕ} {at a b c d r : ℕ} → Printed (prefixesText (prefixesOf (x .slaac))) (sectionMost 4) out at a out₁
+    → Printed (routersText (routersOf (x .slaac))) (sectionMost 2) out₁ a b out₂ → Printed (addressesText (addrsOf (x .addrs))) (sectionMost 8) out₂ b c out₃
+    → Printed (routesText (routesOf (x .routes))) (sectionMost 8) out₃ c d out₄ → Printed (neighborsText (entries (x .cache))) (sectionMost 16) out₄ d r out₅ → Listed x out at r out₅
 unfolding listedText stateText
 listed x p q s t u =
     record {

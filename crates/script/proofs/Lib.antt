@@ -1,4 +1,4 @@
-pub mod AnswerLaws
+pub mod PrintedLaws
 pub mod CardLaws
-pub mod CourseLaws
+pub mod ReadingLaws
 pub mod StepLaws

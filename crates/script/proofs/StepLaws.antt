@@ -5,23 +5,23 @@ use mathlib.Core.List.{List}
 use mathlib.Core.Path.{_≡_, refl, sym, ap, _∙_}
 use native.Mathlib.Omega.{arith}
 use Rattle.iface.specs.AddressRules.{addrsOf, addrCheck, addAddrBy, AddedTo}
-use Rattle.iface.specs.declared.Outcome.the-variants.{Refused, Done}
-use Rattle.iface.specs.declared.Outcome.{Outcome}
+use Rattle.wire.specs.declared.error.Outcome.the-variants.{Refused, Done}
+use Rattle.wire.specs.declared.error.Outcome.{Outcome}
 use Rattle.iface.specs.declared.addr.Added.{Added}
 use Rattle.iface.specs.declared.addr.IfaceAddrs.{IfaceAddrs}
 use Rattle.lines.specs.EventLines.{parsedBytes}
 use Rattle.lines.specs.declared.event.Event.{Event as AnEvent}
-use Rattle.script.proofs.CardLaws.{heard, fits}
+use Rattle.script.proofs.CardLaws.{heard}
 use Rattle.script.specs.CardRules.{carryOut, messageFor, CarriedTo}
-use Rattle.script.specs.CourseRules.{saidIn, nextOf, rank, ReadySaid, SaidTo}
+use Rattle.script.specs.ReadingRules.{saidIn, nextOf, rank, ReadySaid, SaidTo}
 use Rattle.script.specs.StepRules.{Went, quietly, withAddrs, addedBy, added, addedCard, applyOf, room, stepOf, Applied, Stepped, messageIn, FitsSaid, StepTo}
 use Rattle.script.specs.declared.card.After.{After}
 use Rattle.script.specs.declared.card.Card.{Card}
 use Rattle.script.specs.declared.card.Carried.{Carried}
-use Rattle.script.specs.declared.course.Said.the-variants.{Bad, Mac, Next, Static, Event}
-use Rattle.script.specs.declared.course.Said.{Said}
-use Rattle.script.specs.declared.course.Want.the-variants.{Failed}
-use Rattle.script.specs.declared.course.Want.{Want}
+use Rattle.script.specs.declared.reading.Said.the-variants.{Bad, Mac, Next, Static, Event}
+use Rattle.script.specs.declared.reading.Said.{Said}
+use Rattle.script.specs.declared.reading.Want.the-variants.{Failed}
+use Rattle.script.specs.declared.reading.Want.{Want}
 use Rattle.text.proofs.PlaceLaws.{put-as, put-none}
 use Rattle.text.specs.Fields.{fields}
 use Rattle.wire.specs.declared.error.Refusal.{Refusal}
@@ -73,11 +73,11 @@ event-fits n s t e w p f = rw p at f
 -- ---- a line
 
 said-fits : (s : Said) (message bs : List ℕ) → ReadySaid message bs s → FitsSaid (length message) s
-said-fits Bad message bs w = tt
-said-fits (Mac h) message bs w = tt
-said-fits (Next v) message bs w = tt
-said-fits (Static c v) message bs w = tt
-said-fits (Event t e v) message bs w = fits e message bs w
+said-fits Bad message bs w = omega arith
+said-fits (Mac h) message bs w = omega arith
+said-fits (Next v) message bs w = omega arith
+said-fits (Static c v) message bs w = omega arith
+said-fits (Event t e v) message bs w = w .0
 
 pub line-fits : {before : List ℕ} {w : Want} {line message : List ℕ} {s : Said} → SaidTo before w line s message → FitsSaid (length message) s
 line-fits {message = message} {s = s} p = said-fits s message _ (p .ready)

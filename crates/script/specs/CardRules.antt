@@ -6,39 +6,40 @@ use mathlib.Core.List.{List, []}
 use lib.ListN.{length, take, replicate}
 use Rattle.time.specs.declared.Instant.{Instant}
 use Rattle.time.specs.ClockRules.{idle}
-use Rattle.time.specs.TimeRules.{addOf}
 use Rattle.wire.specs.declared.ipv6.Ipv6Addr.{Ipv6Addr}
 use Rattle.wire.specs.declared.ethernet.HardwareAddress.{HardwareAddress}
 use Rattle.text.specs.Place.{Put}
+use Rattle.lines.specs.EventLines.{messageLen}
 use Rattle.lines.specs.declared.event.Event.{Event}
 use Rattle.lines.specs.declared.event.Event.the-variants.{Up, Down, Poll, Sweep, Off, Ra, Start, Fill, Remove}
-use Rattle.report.specs.StateLines.{stateText}
-use Rattle.learned.specs.declared.Slaac.{Slaac}
-use Rattle.learned.specs.LearnedRules.{prefixesOf, routersOf}
-use Rattle.learned.specs.DiscoveryRules.{fresh, restarted, ifaceCheck}
+use Rattle.report.specs.StateLines.{stateText, stateMost}
+use Rattle.report.specs.AnswerLines.{eventMost}
+use Rattle.slaac.specs.declared.Slaac.{Slaac}
+use Rattle.slaac.specs.LearnedRules.{prefixesOf, routersOf}
+use Rattle.slaac.specs.DiscoveryRules.{fresh, restarted}
+use Rattle.wire.specs.Refusals.{ifaceCheck, keyCheck, fillCheck, timeCheck}
 use Rattle.iface.specs.declared.addr.IfaceAddrs.{IfaceAddrs}
 use Rattle.iface.specs.declared.route.Routes.{Routes}
 use Rattle.iface.specs.AddressRules.{emptyAddrs, addrsOf}
 use Rattle.iface.specs.RouteRules.{emptyRoutes, routesOf}
-use Rattle.neighbor.specs.declared.State.the-variants.{Started, Reachable}
+use Rattle.neighbor.specs.declared.State.the-variants.{Started}
 use Rattle.neighbor.specs.declared.NeighborCache.{NeighborCache}
 use Rattle.neighbor.specs.declared.Changed.{Changed}
-use Rattle.neighbor.specs.NeighborRules.{insertState}
-use Rattle.neighbor.specs.CacheCalls.{empty, entries, key, keyCheck, fillCheck, changeBy, removeBy}
+use Rattle.neighbor.specs.NeighborRules.{lasting}
+use Rattle.neighbor.specs.CacheCalls.{empty, entries, key, putIn, changeBy, removeBy}
 use Rattle.sweep.specs.declared.Swept.{Swept}
 use Rattle.sweep.specs.SweepCalls.{sweepCheck, sweepBy}
 use Rattle.pending.specs.QueueCalls.{empty as noPackets}
-use Rattle.slaac.specs.declared.Polled.{Polled}
-use Rattle.slaac.specs.declared.Advertised.{Advertised}
-use Rattle.slaac.specs.declared.TurnedOff.{TurnedOff}
-use Rattle.slaac.specs.Answers.{callCheck}
-use Rattle.slaac.specs.SlaacRules.{callBy}
-use Rattle.slaac.specs.PollRules.{pollBy, pollBuffer}
-use Rattle.slaac.specs.OffRules.{offBy}
+use Rattle.autoconf.specs.declared.Polled.{Polled}
+use Rattle.autoconf.specs.declared.Advertised.{Advertised}
+use Rattle.autoconf.specs.declared.TurnedOff.{TurnedOff}
+use Rattle.autoconf.specs.AdvertRules.{callBy}
+use Rattle.autoconf.specs.PollRules.{pollBy, pollBuffer}
+use Rattle.autoconf.specs.OffRules.{offBy}
 use Rattle.script.specs.declared.card.Card.{Card}
 use Rattle.script.specs.declared.card.Carried.{Carried}
 use Rattle.script.specs.declared.neighbors.Cached.{Cached}
-use Rattle.script.specs.AnswerRules.{pollText, raText, changeText, sweepText}
+use Rattle.script.specs.PrintedRules.{pollText, raText, changeText, sweepText}
 
 -- an event's time, as the calls take it
 abbrev pub instant : ℕ → Instant
@@ -55,11 +56,11 @@ abbrev pub changeDid : ℕ → Changed → DidCache
 changeDid t r = record { cache = r .cache; text = changeText t (r .outcome) }
 
 unfoldable pub startCache : NeighborCache → ℕ → Ipv6Addr → DidCache
-startCache c t a = changeDid t (changeBy (keyCheck 0 a) c (insertState (key 0 a) Started (entries c)))
+startCache c t a = changeDid t (changeBy (keyCheck 0 a) c (putIn c (key 0 a) Started))
 
 unfoldable pub fillCache : NeighborCache → ℕ → Ipv6Addr → HardwareAddress → DidCache
 fillCache c t a h =
-    changeDid t (changeBy (fillCheck (instant t) 0 a h) c (insertState (key 0 a) (Reachable h (addOf (instant t) (record { 0 = 60000 }))) (entries c)))
+    changeDid t (changeBy (fillCheck (instant t) 0 a h) c (putIn c (key 0 a) (lasting h (instant t))))
 
 abbrev pub sweepDid : ℕ → Swept → DidCache
 sweepDid t r = record { cache = r .cache; text = sweepText t (r .outcome) (r .events) }
@@ -71,11 +72,11 @@ sweepCache c t = sweepDid t (sweepBy (sweepCheck (idle (instant t)) 0) c (idle (
 unfoldable pub removeCache : NeighborCache → Ipv6Addr → NeighborCache
 removeCache c a = removeBy (ifaceCheck 0) c (key 0 a) .cache
 
--- the text was put at `at`; it has at most 1,040 bytes, the sixteen events of a sweep
+-- the text was put at `at`
 pub record CachedTo (d : DidCache) (out : List ℕ) (at : ℕ) (r : Cached) (out' : List ℕ) : Type 0 where
   pub cache : r .cache ≡ d .cache
   pub put : Put out at (d .text) (r .at) out'
-  pub short : length (d .text) ≤ 1040
+  pub short : length (d .text) ≤ eventMost
 
 -- The state
 
@@ -121,8 +122,8 @@ sixteen = replicate 16 0
 unfoldable pub pollCard : Card → ℕ → Did
 pollCard x t =
     pollDid x t
-    (pollBy (callCheck (instant t) 0) (x .slaac) (x .addrs) (x .routes) 0 (x .up) (x .«hardware_addr») sixteen (idle (instant t)) .polled)
-    (pollBuffer (callCheck (instant t) 0) (x .slaac) (x .addrs) (x .up) (x .«hardware_addr») sixteen (idle (instant t)))
+    (pollBy (timeCheck (instant t) 0) (x .slaac) (x .addrs) (x .routes) 0 (x .up) (x .«hardware_addr») sixteen (idle (instant t)) .polled)
+    (pollBuffer (timeCheck (instant t) 0) (x .slaac) (x .addrs) (x .up) (x .«hardware_addr») sixteen (idle (instant t)))
 
 -- ra
 abbrev pub heardCard : Card → Advertised → Card
@@ -132,7 +133,7 @@ abbrev pub raDid : Card → ℕ → Advertised → Did
 raDid x t r = did (heardCard x r) (raText t (r .answer))
 
 unfoldable pub raCard : Card → ℕ → Ipv6Addr → List ℕ → Did
-raCard x t source message = raDid x t (callBy (callCheck (instant t) 0) (x .slaac) (x .cache) 0 source message (instant t))
+raCard x t source message = raDid x t (callBy (timeCheck (instant t) 0) (x .slaac) (x .cache) 0 source message (instant t))
 
 -- off prints nothing, the first time and later; there is no packet to purge
 abbrev pub leftCard : Card → TurnedOff → Card
@@ -155,31 +156,15 @@ carryOut x t Off message = did (offCard x) []
 
 -- an advertisement's message stands at the front of the buffer
 abbrev pub messageFor : Event → List ℕ → List ℕ
-messageFor Up buffer = []
-messageFor Down buffer = []
-messageFor Poll buffer = []
-messageFor (Ra source n) buffer = take n buffer
-messageFor (Start a) buffer = []
-messageFor Sweep buffer = []
-messageFor (Fill a h) buffer = []
-messageFor (Remove a) buffer = []
-messageFor Off buffer = []
+messageFor e buffer = take (messageLen e) buffer
 
 abbrev pub Fits : ℕ → Event → Type 0
-Fits room Up = Unit {0}
-Fits room Down = Unit {0}
-Fits room Poll = Unit {0}
-Fits room (Ra source n) = n ≤ room
-Fits room (Start a) = Unit {0}
-Fits room Sweep = Unit {0}
-Fits room (Fill a h) = Unit {0}
-Fits room (Remove a) = Unit {0}
-Fits room Off = Unit {0}
+Fits room e = messageLen e ≤ room
 
 pub record CarriedTo (x : Did) (out : List ℕ) (at : ℕ) (r : Carried) (out' : List ℕ) : Type 0 where
   pub card : r .card ≡ x .card
   pub put : Put out at (x .text) (r .at) out'
-  pub short : length (x .text) ≤ 1040
+  pub short : length (x .text) ≤ eventMost
 
 -- "Then the state."
 unfoldable pub listedText : Card → List ℕ
@@ -187,4 +172,4 @@ listedText x = stateText (prefixesOf (x .slaac)) (routersOf (x .slaac)) (addrsOf
 
 pub record Listed (x : Card) (out : List ℕ) (at r : ℕ) (out' : List ℕ) : Type 0 where
   pub put : Put out at (listedText x) r out'
-  pub short : length (listedText x) ≤ 4096
+  pub short : length (listedText x) ≤ stateMost

@@ -1,4 +1,4 @@
-pub mod AnswerRules
+pub mod PrintedRules
 pub mod CardRules
-pub mod CourseRules
+pub mod ReadingRules
 pub mod StepRules

@@ -2,25 +2,26 @@
 use Prim.Native.Nat.{ℕ, _≤_, _<_}
 use mathlib.Core.Path.{_≡_}
 use mathlib.Core.List.{List, []}
-use lib.ListN.{length}
+use lib.ListN.{length, take}
 use Rattle.text.specs.Fields.{fields}
 use Rattle.text.specs.Place.{Put}
-use Rattle.lines.specs.EventLines.{parsedBytes}
+use Rattle.lines.specs.EventLines.{parsedBytes, messageLen}
+use Rattle.report.specs.AnswerLines.{eventMost}
 use Rattle.wire.specs.declared.ethernet.HardwareAddress.{HardwareAddress}
 use Rattle.wire.specs.declared.ipv6.Ipv6Cidr.{Ipv6Cidr}
-use Rattle.iface.specs.declared.Outcome.{Outcome}
-use Rattle.iface.specs.declared.Outcome.the-variants.{Refused, Done}
+use Rattle.wire.specs.declared.error.Outcome.{Outcome}
+use Rattle.wire.specs.declared.error.Outcome.the-variants.{Refused, Done}
 use Rattle.iface.specs.declared.addr.IfaceAddrs.{IfaceAddrs}
 use Rattle.iface.specs.declared.addr.Added.{Added}
 use Rattle.iface.specs.AddressRules.{addrsOf, addrCheck, addAddrBy}
 use Rattle.script.specs.declared.card.Card.{Card}
 use Rattle.script.specs.declared.card.After.{After}
-use Rattle.script.specs.declared.course.Want.{Want}
-use Rattle.script.specs.declared.course.Want.the-variants.{Addresses, Failed}
-use Rattle.script.specs.declared.course.Said.{Said}
-use Rattle.script.specs.declared.course.Said.the-variants.{Bad, Mac, Next, Static, Event}
-use Rattle.script.specs.CardRules.{Did, cardOf, carryOut, messageFor, Fits}
-use Rattle.script.specs.CourseRules.{saidIn, rank}
+use Rattle.script.specs.declared.reading.Want.{Want}
+use Rattle.script.specs.declared.reading.Want.the-variants.{Addresses, Failed}
+use Rattle.script.specs.declared.reading.Said.{Said}
+use Rattle.script.specs.declared.reading.Said.the-variants.{Bad, Mac, Next, Static, Event}
+use Rattle.script.specs.CardRules.{Did, cardOf, carryOut}
+use Rattle.script.specs.ReadingRules.{saidIn, rank}
 
 -- what a line leaves: which line is wanted next, the state, and the text that was printed
 pub record Went : Type 0 where
@@ -41,7 +42,7 @@ withHardware x h = cardOf (x .slaac) (x .addrs) (x .routes) (x .cache) h (x .up)
 abbrev pub withAddrs : Card → IfaceAddrs → Card
 withAddrs x t = cardOf (x .slaac) t (x .routes) (x .cache) (x .«hardware_addr») (x .up)
 
--- "(also one .. refused by the address table)"
+-- "A bad line N (from 1; also one .. refused by the address table)"
 abbrev pub addedBy : Card → Want → IfaceAddrs → Outcome → Went
 addedBy x w t (Refused why) = badLine x
 addedBy x w t Done = quietly w (withAddrs x t)
@@ -63,7 +64,7 @@ applyOf x (Next w) message = quietly w x
 applyOf x (Static c w) message = addedCard x c w
 applyOf x (Event t e w) message = carried w (carryOut x t e message)
 
--- there is room for the message of any line
+-- there is room for the message of any line, of which two digits make a byte
 abbrev pub room : ℕ
 room = 2048
 
@@ -77,30 +78,30 @@ pub record Applied (g : Went) (at : ℕ) (r : After) : Type 0 where
   pub text : g .text ≡ []
   pub place : r .at ≡ at
 
--- the text was put at `at`, and has at most 1,040 bytes
+-- the text was put at `at`
 pub record Stepped (g : Went) (out : List ℕ) (at : ℕ) (r : After) (out' : List ℕ) : Type 0 where
   pub want : r .want ≡ g .want
   pub card : r .card ≡ g .card
   pub put : Put out at (g .text) (r .at) out'
-  pub short : length (g .text) ≤ 1040
+  pub short : length (g .text) ≤ eventMost
 
 abbrev pub applied : Card → Said → List ℕ → List ℕ → ℕ → After → List ℕ → Type 0
 applied x s message out at r out' = Stepped (applyOf x s message) out at r out'
 
--- an advertisement's message stands at the front of the buffer
+-- how many bytes of a message go with what a line said
+abbrev pub saidLen : Said → ℕ
+saidLen Bad = 0
+saidLen (Mac h) = 0
+saidLen (Next w) = 0
+saidLen (Static c w) = 0
+saidLen (Event t e w) = messageLen e
+
+-- they stand at the front of the buffer
 abbrev pub messageIn : Said → List ℕ → List ℕ
-messageIn Bad buffer = []
-messageIn (Mac h) buffer = []
-messageIn (Next w) buffer = []
-messageIn (Static c w) buffer = []
-messageIn (Event t e w) buffer = messageFor e buffer
+messageIn s buffer = take (saidLen s) buffer
 
 abbrev pub FitsSaid : ℕ → Said → Type 0
-FitsSaid n Bad = Unit {0}
-FitsSaid n (Mac h) = Unit {0}
-FitsSaid n (Next w) = Unit {0}
-FitsSaid n (Static c w) = Unit {0}
-FitsSaid n (Event t e w) = Fits n e
+FitsSaid n s = saidLen s ≤ n
 
 -- one line: it does what the rules say, and fewer can still come
 pub record StepTo (w : Want) (x : Card) (line out : List ℕ) (at : ℕ) (r : After) (out' : List ℕ) : Type 0 where

@@ -3,26 +3,33 @@ ghost use mathlib.Core.Path.{_≡_};
 ghost use lib.ListN.{length};
 ghost use Rattle.script.specs.CardRules.{newCard, withCache, CarriedTo, upCard, pollCard, raCard, offCard, carryOut, messageFor, Fits, Listed};
 ghost use Rattle.script.specs.StepRules.{addedCard, Applied, applied, FitsSaid, messageIn, StepTo};
-use crate::course::Said;
-use crate::course::Want;
-use crate::course::read_line;
 use crate::neighbors;
 use crate::neighbors::Cached;
 use crate::neighbors::IFACE;
-use crate::said;
-use iface::Outcome;
+use crate::printed;
+use crate::reading::LINE_MAX;
+use crate::reading::Said;
+use crate::reading::Want;
+use crate::reading::read_line;
 use iface::addr::IfaceAddrs;
 use iface::route::Routes;
-use learned::Slaac;
 use lines::event::Event;
 use neighbor::NeighborCache;
 use pending::PendingQueue;
 use report::listing;
+use slaac::Slaac;
 use time::Clock;
 use time::Instant;
+use wire::error::Outcome;
 use wire::ethernet::HardwareAddress;
 use wire::ipv6::Ipv6Addr;
 use wire::ipv6::Ipv6Cidr;
+
+// A router solicitation with a source link-layer option.
+const SOLICIT_LEN: usize = 16;
+
+// Two digits of a line make a byte of a message.
+const MESSAGE_ROOM: usize = LINE_MAX / 2;
 
 pub struct Card {
     pub slaac: Slaac,
@@ -69,11 +76,11 @@ impl Card {
     fn link_up(self) -> Card
         ensures { λ r. ⌜ r ≡ upCard self ⌝ }
     {
-        let s = self.slaac;
-        let changed = s.restart(IFACE);
-        let next = changed.slaac;
+        let slaac = self.slaac;
+        let changed = slaac.restart(IFACE);
+        let slaac_after = changed.slaac;
         let mut card = self;
-        card.slaac = next;
+        card.slaac = slaac_after;
         card.up = true;
         card
     }
@@ -81,47 +88,54 @@ impl Card {
     fn poll(self, time: u64, out: &mut [u8], at: usize) -> Carried
         ensures { λ r. ⌜ CarriedTo (pollCard self time) (now (out .entry)) at r (now (out .exit)) ⌝ }
     {
-        let s = self.slaac;
-        let a = self.addrs;
-        let r = self.routes;
-        let h = self.hardware_addr;
-        let mut message = [0u8; 16];
-        let p = slaac::poll_at(
-            s,
-            a,
-            r,
+        let slaac = self.slaac;
+        let addrs = self.addrs;
+        let routes = self.routes;
+        let hardware_addr = self.hardware_addr;
+        let mut message = [0u8; SOLICIT_LEN];
+        let polled_at = autoconf::poll_at(
+            slaac,
+            addrs,
+            routes,
             IFACE,
             self.up,
-            h,
+            hardware_addr,
             &mut message,
             Clock::new(Instant(time)),
         );
-        let left = p.polled;
-        let answer = left.answer;
-        let next = said::poll(out, at, time, answer, &message);
-        let s2 = left.slaac;
-        let a2 = left.addrs;
-        let r2 = left.routes;
+        let polled = polled_at.polled;
+        let answer = polled.answer;
+        let next = printed::poll(out, at, time, answer, &message);
+        let slaac_after = polled.slaac;
+        let addrs_after = polled.addrs;
+        let routes_after = polled.routes;
         let mut card = self;
-        card.slaac = s2;
-        card.addrs = a2;
-        card.routes = r2;
+        card.slaac = slaac_after;
+        card.addrs = addrs_after;
+        card.routes = routes_after;
         Carried { card, at: next }
     }
 
     fn ra(self, time: u64, source: Ipv6Addr, message: &[u8], out: &mut [u8], at: usize) -> Carried
         ensures { λ r. ⌜ CarriedTo (raCard self time source (now (message .entry))) (now (out .entry)) at r (now (out .exit)) ⌝ }
     {
-        let s = self.slaac;
-        let c = self.cache;
-        let left = slaac::process_advertisement(s, c, IFACE, source, message, Instant(time));
-        let answer = left.answer;
-        let next = said::ra(out, at, time, answer);
-        let s2 = left.slaac;
-        let c2 = left.cache;
+        let slaac = self.slaac;
+        let cache = self.cache;
+        let heard = autoconf::process_advertisement(
+            slaac,
+            cache,
+            IFACE,
+            source,
+            message,
+            Instant(time),
+        );
+        let answer = heard.answer;
+        let next = printed::ra(out, at, time, answer);
+        let slaac_after = heard.slaac;
+        let cache_after = heard.cache;
         let mut card = self;
-        card.slaac = s2;
-        card.cache = c2;
+        card.slaac = slaac_after;
+        card.cache = cache_after;
         Carried { card, at: next }
     }
 
@@ -129,20 +143,20 @@ impl Card {
     fn off(self) -> Card
         ensures { λ r. ⌜ r ≡ offCard self ⌝ }
     {
-        let s = self.slaac;
-        let a = self.addrs;
-        let r = self.routes;
-        let c = self.cache;
-        let left = slaac::turn_off(s, a, r, c, PendingQueue::new(), IFACE);
-        let s2 = left.slaac;
-        let a2 = left.addrs;
-        let r2 = left.routes;
-        let c2 = left.cache;
+        let slaac = self.slaac;
+        let addrs = self.addrs;
+        let routes = self.routes;
+        let cache = self.cache;
+        let left = autoconf::turn_off(slaac, addrs, routes, cache, PendingQueue::new(), IFACE);
+        let slaac_after = left.slaac;
+        let addrs_after = left.addrs;
+        let routes_after = left.routes;
+        let cache_after = left.cache;
         let mut card = self;
-        card.slaac = s2;
-        card.addrs = a2;
-        card.routes = r2;
-        card.cache = c2;
+        card.slaac = slaac_after;
+        card.addrs = addrs_after;
+        card.routes = routes_after;
+        card.cache = cache_after;
         card
     }
 
@@ -150,9 +164,9 @@ impl Card {
     fn with_cache(self, cached: Cached) -> Carried
         ensures { λ r. ⌜ (r .card ≡ withCache self (cached .cache)) × (r .at ≡ cached .at) ⌝ }
     {
-        let c = cached.cache;
+        let cache = cached.cache;
         let mut card = self;
-        card.cache = c;
+        card.cache = cache;
         Carried {
             card,
             at: cached.at,
@@ -182,22 +196,22 @@ impl Card {
                 Carried { card, at }
             }
             Event::Poll => self.poll(time, out, at),
-            Event::Ra(source, n) => self.ra(time, source, &message[..n], out, at),
+            Event::Ra(source, len) => self.ra(time, source, &message[..len], out, at),
             Event::Start(addr) => {
-                let c = self.cache;
-                self.with_cache(neighbors::start(c, time, addr, out, at))
+                let cache = self.cache;
+                self.with_cache(neighbors::start(cache, time, addr, out, at))
             }
             Event::Sweep => {
-                let c = self.cache;
-                self.with_cache(neighbors::sweep(c, time, out, at))
+                let cache = self.cache;
+                self.with_cache(neighbors::sweep(cache, time, out, at))
             }
             Event::Fill(addr, hardware_addr) => {
-                let c = self.cache;
-                self.with_cache(neighbors::fill(c, time, addr, hardware_addr, out, at))
+                let cache = self.cache;
+                self.with_cache(neighbors::fill(cache, time, addr, hardware_addr, out, at))
             }
             Event::Remove(addr) => {
-                let c = self.cache;
-                self.with_cache(neighbors::remove(c, addr, at))
+                let cache = self.cache;
+                self.with_cache(neighbors::remove(cache, addr, at))
             }
             Event::Off => Carried {
                 card: self.off(),
@@ -210,8 +224,8 @@ impl Card {
     fn add_address(self, cidr: Ipv6Cidr, want: Want, at: usize) -> After
         ensures { λ r. ⌜ Applied (addedCard self cidr want) at r ⌝ }
     {
-        let t = self.addrs;
-        let added = t.add_ip_addr(IFACE, cidr);
+        let addrs = self.addrs;
+        let added = addrs.add_ip_addr(IFACE, cidr);
         let answer = added.outcome;
         match answer {
             Outcome::Refused(_) => After {
@@ -220,9 +234,9 @@ impl Card {
                 at,
             },
             Outcome::Done => {
-                let t2 = added.addrs;
+                let addrs_after = added.addrs;
                 let mut card = self;
-                card.addrs = t2;
+                card.addrs = addrs_after;
                 After { want, card, at }
             }
         }
@@ -239,9 +253,9 @@ impl Card {
                 card: self,
                 at,
             },
-            Said::Mac(h) => {
+            Said::Mac(hardware_addr) => {
                 let mut card = self;
-                card.hardware_addr = h;
+                card.hardware_addr = hardware_addr;
                 After {
                     want: Want::Addresses,
                     card,
@@ -266,11 +280,11 @@ impl Card {
         }
     }
 
-    // One line of the input. The message of an advertisement has half as many bytes as its line has digits, at most.
+    // One line of the input.
     pub fn step(self, want: Want, line: &[u8], out: &mut [u8], at: usize) -> After
         ensures { λ r. ⌜ StepTo want self (now (line .entry)) (now (out .entry)) at r (now (out .exit)) ⌝ }
     {
-        let mut message = [0u8; 2048];
+        let mut message = [0u8; MESSAGE_ROOM];
         let said = read_line(want, line, &mut message);
         self.apply(said, &message, out, at)
     }
@@ -279,14 +293,14 @@ impl Card {
     pub fn list(self, out: &mut [u8], at: usize) -> usize
         ensures { λ r. ⌜ Listed self (now (out .entry)) at r (now (out .exit)) ⌝ }
     {
-        let s = self.slaac;
-        let a = listing::prefixes(out, at, s);
-        let b = listing::routers(out, a, s);
+        let slaac = self.slaac;
+        let after_prefixes = listing::prefixes(out, at, slaac);
+        let after_routers = listing::routers(out, after_prefixes, slaac);
         let addrs = self.addrs;
-        let c = listing::addresses(out, b, addrs);
-        let table = self.routes;
-        let d = listing::routes(out, c, table);
+        let after_addresses = listing::addresses(out, after_routers, addrs);
+        let routes = self.routes;
+        let after_routes = listing::routes(out, after_addresses, routes);
         let cache = self.cache;
-        listing::neighbors(out, d, cache)
+        listing::neighbors(out, after_routes, cache)
     }
 }

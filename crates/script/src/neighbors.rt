@@ -1,7 +1,7 @@
 // The events on the neighbours.
 ghost use mathlib.Core.Path.{_≡_};
 ghost use Rattle.script.specs.CardRules.{CachedTo, startCache, sweepCache, fillCache, removeCache};
-use crate::said;
+use crate::printed;
 use neighbor::NeighborCache;
 use time::Clock;
 use time::Instant;
@@ -22,7 +22,7 @@ pub fn start(cache: NeighborCache, time: u64, addr: Ipv6Addr, out: &mut [u8], at
 {
     let left = cache.start_resolution(IFACE, addr);
     let answer = left.outcome;
-    let next = said::change(out, at, time, answer);
+    let next = printed::change(out, at, time, answer);
     let after = left.cache;
     Cached {
         cache: after,
@@ -36,7 +36,7 @@ pub fn sweep(cache: NeighborCache, time: u64, out: &mut [u8], at: usize) -> Cach
     let left = sweep::sweep_at(cache, Clock::new(Instant(time)), IFACE);
     let answer = left.outcome;
     let events = left.events;
-    let next = said::sweep(out, at, time, answer, events);
+    let next = printed::sweep(out, at, time, answer, events);
     let after = left.cache;
     Cached {
         cache: after,
@@ -56,7 +56,7 @@ pub fn fill(
 {
     let left = cache.fill(IFACE, addr, hardware_addr, Instant(time));
     let answer = left.outcome;
-    let next = said::change(out, at, time, answer);
+    let next = printed::change(out, at, time, answer);
     let after = left.cache;
     Cached {
         cache: after,

@@ -1,4 +1,3 @@
-pub mod SyncLaws
-pub mod PollLaws
-pub mod AdvertLaws
-pub mod OffLaws
+pub mod LearnedLaws
+pub mod ExpiryLaws
+pub mod DiscoveryLaws

@@ -1,5 +1,4 @@
-pub mod Answers
-pub mod SlaacRules
-pub mod SyncRules
-pub mod PollRules
-pub mod OffRules
+pub mod Fields
+pub mod LearnedRules
+pub mod ExpiryRules
+pub mod DiscoveryRules

@@ -7,7 +7,7 @@ use mathlib.Core.List.{List, [], _∷_, map}
 use mathlib.Core.Path.{_≡_, refl, ap, ap₂, sym, _∙_}
 use native.Mathlib.Numerals.{add-one}
 use native.Mathlib.Omega.{arith}
-use Rattle.neighbor.specs.CacheCalls.{entries, withEntries, blank}
+use Rattle.neighbor.specs.CacheCalls.{withEntries, blank}
 use Rattle.neighbor.specs.declared.Entry.{Entry}
 use Rattle.neighbor.specs.declared.NeighborCache.{NeighborCache}
 use Rattle.sweep.specs.SweepCalls.{ProbeIn, nothing, happens, probeInAt, probeIn, EventsIn, andThenIn, eventsIn, slotOf, eventsTable, probeAll, blankEvent}

@@ -1,15 +1,16 @@
 // A sweep of an interface: one expiry pass over the whole cache, then the interface's probe events.
 ghost use mathlib.Core.Path.{_≡_};
 ghost use Rattle.sweep.specs.SweepCalls.{SweptTo};
-ghost use Rattle.sweep.specs.SweepParts.{ExpiryTo, timerOf};
+ghost use Rattle.sweep.specs.SweepParts.{AgedTo, timerOf};
 ghost use Rattle.sweep.specs.SweepRules.{expireClockState};
 use neighbor::Entry;
+use neighbor::NEIGHBOR_CACHE_COUNT;
 use neighbor::NeighborCache;
-use neighbor::Outcome;
 use neighbor::State;
 use time::Clock;
 use time::Instant;
 use wire::error::Check;
+use wire::error::Outcome;
 use wire::ipv6::Ipv6Addr;
 
 // A resolution timer that was due.
@@ -26,7 +27,7 @@ pub struct EventSlot {
 }
 
 pub struct Events {
-    pub slots: [EventSlot; 16],
+    pub slots: [EventSlot; NEIGHBOR_CACHE_COUNT],
     pub len: usize,
 }
 
@@ -38,7 +39,7 @@ pub struct Swept {
 }
 
 // What the expiry pass makes of a state.
-struct Expiry {
+struct Aged {
     changed: bool,
     state: State,
 }
@@ -53,13 +54,13 @@ enum Timer {
 }
 
 // The timer of a resolution that was started is set, and an expired mapping becomes stale.
-fn expire_state(state: State, now: Instant) -> Expiry
-    ensures { λ r. ⌜ ExpiryTo state now r ⌝ }
+fn expire_state(state: State, now: Instant) -> Aged
+    ensures { λ r. ⌜ AgedTo state now r ⌝ }
 {
     match state {
         State::Started => {
             let due = now.add(NeighborCache::RETRANS_TIMER);
-            Expiry {
+            Aged {
                 changed: true,
                 state: State::Incomplete {
                     probes_sent: 1,
@@ -71,7 +72,7 @@ fn expire_state(state: State, now: Instant) -> Expiry
         State::Incomplete {
             probes_sent: _,
             retrans_at: _,
-        } => Expiry {
+        } => Aged {
             changed: false,
             state: state,
         },
@@ -80,20 +81,20 @@ fn expire_state(state: State, now: Instant) -> Expiry
             expires_at,
         } => {
             if expires_at.0 <= now.0 {
-                Expiry {
+                Aged {
                     changed: true,
                     state: State::Stale {
                         hardware_addr: hardware_addr,
                     },
                 }
             } else {
-                Expiry {
+                Aged {
                     changed: false,
                     state: state,
                 }
             }
         }
-        State::Stale { hardware_addr: _ } => Expiry {
+        State::Stale { hardware_addr: _ } => Aged {
             changed: false,
             state: state,
         },
@@ -129,26 +130,26 @@ fn expire_clock(state: State, clock: Clock) -> Clock
 }
 
 // Advance the retransmission timer of an entry that is being resolved on `iface`.
-fn advance(e: Entry, iface: u8, now: Instant) -> Timer
-    ensures { λ r. ⌜ r ≡ timerOf iface now e ⌝ }
+fn advance(entry: Entry, iface: u8, now: Instant) -> Timer
+    ensures { λ r. ⌜ r ≡ timerOf iface now entry ⌝ }
 {
-    let s = e.state;
-    match s {
+    let state = entry.state;
+    match state {
         State::Incomplete {
             probes_sent,
             retrans_at,
         } => {
-            let here = iface == e.iface;
+            let here = iface == entry.iface;
             let due = retrans_at.0 <= now.0;
             if here & due {
                 if probes_sent >= NeighborCache::MAX_MULTICAST_SOLICIT {
                     return Timer::Spent;
                 }
-                let a = e.addr;
+                let addr = entry.addr;
                 let next = now.add(NeighborCache::RETRANS_TIMER);
                 Timer::Rearmed(Entry {
-                    iface: e.iface,
-                    addr: a,
+                    iface: entry.iface,
+                    addr: addr,
                     state: State::Incomplete {
                         probes_sent: probes_sent + 1,
                         retrans_at: next,
@@ -168,7 +169,7 @@ fn advance(e: Entry, iface: u8, now: Instant) -> Timer
 }
 
 // The sweep, with the clock by value. Only entries that change are stored.
-pub fn sweep_at(cache: NeighborCache, clock: Clock, iface: u8) -> Swept
+pub fn sweep_at(mut cache: NeighborCache, mut clock: Clock, iface: u8) -> Swept
     ensures { λ r. ⌜ SweptTo cache clock iface r ⌝ }
 {
     let now = clock.now;
@@ -176,7 +177,7 @@ pub fn sweep_at(cache: NeighborCache, clock: Clock, iface: u8) -> Swept
     let blank = EventSlot {
         event: ProbeEvent::Retransmit(nowhere),
     };
-    let mut events = [blank; 16];
+    let mut events = [blank; NEIGHBOR_CACHE_COUNT];
     let check = wire::error::check_time(now, iface);
     match check {
         Check::Refused(why) => {
@@ -192,25 +193,24 @@ pub fn sweep_at(cache: NeighborCache, clock: Clock, iface: u8) -> Swept
         }
         Check::Fine => {}
     }
-    let mut c = cache;
-    let mut k = clock;
-    let mut len = table::count_of(c.len, 16);
+    let mut len = table::count_of(cache.len, NEIGHBOR_CACHE_COUNT);
     let mut i = 0;
     while i < len {
-        let e = c.slots[i];
-        let s = e.state;
-        let x = expire_state(s, now);
-        k = expire_clock(s, k);
+        let entry = cache.slots[i];
+        let state = entry.state;
+        let aged = expire_state(state, now);
+        clock = expire_clock(state, clock);
         let at = i;
         i += 1;
-        if x.changed {
-            let a = e.addr;
-            let y = x.state;
-            c.slots[at] = Entry {
-                iface: e.iface,
-                addr: a,
-                state: y,
+        if aged.changed {
+            let addr = entry.addr;
+            let aged_state = aged.state;
+            let aged_entry = Entry {
+                iface: entry.iface,
+                addr: addr,
+                state: aged_state,
             };
+            cache.slots[at] = aged_entry;
         }
     }
     let mut count = 0;
@@ -218,35 +218,35 @@ pub fn sweep_at(cache: NeighborCache, clock: Clock, iface: u8) -> Swept
     while place < len {
         let at = place;
         place += 1;
-        let e = c.slots[at];
-        let a = e.addr;
-        let timer = advance(e, iface, now);
+        let entry = cache.slots[at];
+        let addr = entry.addr;
+        let timer = advance(entry, iface, now);
         match timer {
             Timer::NotDue => {}
             Timer::Spent => {
                 // What stood last fills the hole, and its turn is next.
-                let last = c.slots[len - 1];
-                c.slots[at] = last;
+                let last = cache.slots[len - 1];
+                cache.slots[at] = last;
                 len -= 1;
                 place = at;
                 events[count] = EventSlot {
-                    event: ProbeEvent::Failed(a),
+                    event: ProbeEvent::Failed(addr),
                 };
                 count += 1;
             }
-            Timer::Rearmed(y) => {
-                c.slots[at] = y;
+            Timer::Rearmed(rearmed) => {
+                cache.slots[at] = rearmed;
                 events[count] = EventSlot {
-                    event: ProbeEvent::Retransmit(a),
+                    event: ProbeEvent::Retransmit(addr),
                 };
                 count += 1;
             }
         }
     }
-    c.len = len;
+    cache.len = len;
     Swept {
-        cache: c,
-        clock: k,
+        cache: cache,
+        clock: clock,
         events: Events {
             slots: events,
             len: count,

@@ -11,7 +11,7 @@ use mathlib.Core.Path.{_≡_, refl, ap, ap₂, sym, _∙_}
 use native.Mathlib.Nat.{eq-or-lt-of-le}
 use native.Mathlib.Numerals.{add-one}
 use native.Mathlib.Omega.{arith}
-use Rattle.table.specs.Table.{filled, lastOf, frontOf, swapRemove, without, kept, dropped, atFirst, anyOf, firstOf, foldOver}
+use Rattle.table.specs.Table.{filled, lastOf, frontOf, swapRemove, without, kept, atFirst, anyOf, firstOf, foldOver}
 
 -- `length s ≡ 16` of a parameter's field: `search (needs, mapped)`
 pub mapped : (X Y : Type 0) (f : X → Y) (l : List X) (n : ℕ) → length (map f l) ≡ n → length l ≡ n

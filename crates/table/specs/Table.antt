@@ -3,10 +3,15 @@ use Prim.Native.Nat.{ℕ, zero, suc, _+_}
 use mathlib.Core.Bool.{Bool, true, false, cond}
 use mathlib.Core.List.{List, [], _∷_, _++_}
 use lib.ListN.{take, drop, length}
+use lib.Dec.{ltb}
 
 -- the slots with these entries in front: past them they hold what they held
 abbrev pub filled : {A : Type 0} → List A → List A → List A
 filled s xs = xs ++ drop (length xs) s
+
+-- one more entry, if there is room
+abbrev pub ifRoom : {A : Type 0} → ℕ → List A → A → List A
+ifRoom size es x = cond (ltb (length es) size) (x ∷ []) []
 
 -- the last entry moves to the front
 abbrev pub lastOf : {A : Type 0} → A → List A → A

@@ -5,8 +5,9 @@ use lib.ListN.{length, drop-of-length-le}
 use mathlib.Core.List.{List, append-nil}
 use mathlib.Core.Path.{_≡_, refl, sym, ap, _∙_}
 use native.Mathlib.Omega.{arith}
+use Rattle.table.specs.Table.{filled}
 use Rattle.text.specs.Addresses.{addressOf, hardwareOf, messageOf, MessageRead}
-use Rattle.text.specs.Hex.{unhexed, front, Unhexed}
+use Rattle.text.specs.Hex.{unhexed, Unhexed}
 use Rattle.text.specs.declared.address.Address.the-variants.{Value as Addr}
 use Rattle.text.specs.declared.address.Hardware.the-variants.{Value as Hw}
 use Rattle.text.specs.declared.address.Message.the-variants.{Bytes, Bad as NoMessage}
@@ -16,21 +17,21 @@ use Rattle.wire.specs.declared.ethernet.HardwareAddress.{HardwareAddress}
 use Rattle.wire.specs.declared.ipv6.Ipv6Addr.{Ipv6Addr}
 
 -- what fills a buffer is all of it
-filled : (u sp zs : List ℕ) (k : ℕ) → sp ≡ front u zs → length u ≡ k → length zs ≡ k → sp ≡ u
-filled u sp zs k p h z = p ∙ rw (drop-of-length-le zs {i = length u} (omega arith)) (append-nil u)
+whole : (u sp zs : List ℕ) (k : ℕ) → sp ≡ filled zs u → length u ≡ k → length zs ≡ k → sp ≡ u
+whole u sp zs k p h z = p ∙ rw (drop-of-length-le zs {i = length u} (omega arith)) (append-nil u)
 
 pub address-good : (s sp zs : List ℕ) (n : ℕ) (a : Ipv6Addr) → length s ≡ 32 → Unhexed s zs n sp → n ≡ 16 → length zs ≡ 16
     → a ≡ addressAt sp 0 → Addr a ≡ addressOf s
 unfolding addressOf
 address-good s sp zs n a h w m z e =
-    let u = filled (unhexed s) sp zs 16 (w .is) (sym (w .count) ∙ m) z in
+    let u = whole (unhexed s) sp zs 16 (w .is) (sym (w .count) ∙ m) z in
     rw (eq-eqb (length s) 32 h, eq-eqb (length (unhexed s)) 16 (sym (w .count) ∙ m)) (ap Addr (e ∙ ap (λ (l : List ℕ). addressAt l 0) u))
 
 pub hardware-good : (s sp zs : List ℕ) (n : ℕ) (a : HardwareAddress) → length s ≡ 12 → Unhexed s zs n sp → n ≡ 6 → length zs ≡ 6
     → a ≡ hardwareAt sp 0 → Hw a ≡ hardwareOf s
 unfolding hardwareOf
 hardware-good s sp zs n a h w m z e =
-    let u = filled (unhexed s) sp zs 6 (w .is) (sym (w .count) ∙ m) z in
+    let u = whole (unhexed s) sp zs 6 (w .is) (sym (w .count) ∙ m) z in
     rw (eq-eqb (length s) 12 h, eq-eqb (length (unhexed s)) 6 (sym (w .count) ∙ m)) (ap Hw (e ∙ ap (λ (l : List ℕ). hardwareAt l 0) u))
 
 -- ---- messages

@@ -9,7 +9,8 @@ use mathlib.Core.List.{List, [], _∷_}
 use mathlib.Core.Path.{_≡_, refl, sym, ap, ap₂, _∙_}
 use native.Mathlib.Numerals.{add-one}
 use native.Mathlib.Omega.{arith}
-use Rattle.text.specs.Fields.{Field, onto, fields, indexOf, sameAs, Found}
+use Rattle.text.specs.Fields.{Field, onto, fields, indexOf, Found}
+use Rattle.wire.specs.Rfc4291.{sameBytes}
 
 -- ---- a search
 
@@ -39,35 +40,27 @@ before b (x ∷ xs) k h e = below-by b x (indexOf b xs) k xs (eqb x b) refl (λ 
 
 -- ---- comparing
 
-pub differ : (s w : List ℕ) → (length s ≡ length w → ⊥) → sameAs s w ≡ false
+pub differ : (s w : List ℕ) → (length s ≡ length w → ⊥) → sameBytes s w ≡ false
 differ [] [] h = absurd (h refl)
 differ [] (y ∷ ys) h = refl
 differ (x ∷ xs) [] h = refl
 differ (x ∷ xs) (y ∷ ys) h =
-    let t : sameAs xs ys ≡ false = differ xs ys (λ e. h (ap suc e)) in
+    let t : sameBytes xs ys ≡ false = differ xs ys (λ e. h (ap suc e)) in
     rw t (none (eqb x y))
   where
     none : (b : Bool) → (b && false) ≡ false
     none true = refl
     none false = refl
 
-pub same-step : (s w : List ℕ) (i : ℕ) → i < length s → i < length w → getD s i 0 ≡ getD w i 0
-    → sameAs (drop i s) (drop i w) ≡ sameAs (drop (i + 1) s) (drop (i + 1) w)
-same-step s w i h k e = simp (drop-cons s i 0 h, drop-cons w i 0 k, eq-eqb (getD s i 0) (getD w i 0) e, add-one)
-
-pub same-stop : (s w : List ℕ) (i : ℕ) → i < length s → i < length w → (getD s i 0 ≡ getD w i 0 → ⊥)
-    → sameAs (drop i s) (drop i w) ≡ false
-same-stop s w i h k e = simp (drop-cons s i 0 h, drop-cons w i 0 k, ne-eqb (getD s i 0) (getD w i 0) e)
-
 no-false : false ≡ true → ⊥
 no-false p = let z : _≡_ {A = ℕ} 0 1 = cc in omega arith
 
-same-by : (x y : ℕ) (s w : List ℕ) (t : Bool) → eqb x y ≡ t → (sameAs s w ≡ true → s ≡ w) → (t && sameAs s w) ≡ true → _≡_ {A = List ℕ} (x ∷ s) (y ∷ w)
+same-by : (x y : ℕ) (s w : List ℕ) (t : Bool) → eqb x y ≡ t → (sameBytes s w ≡ true → s ≡ w) → (t && sameBytes s w) ≡ true → _≡_ {A = List ℕ} (x ∷ s) (y ∷ w)
 same-by x y s w true e i p = ap₂ (λ (a : ℕ) (l : List ℕ). a ∷ l) (eqb-true x y e) (i p)
 same-by x y s w false e i p = absurd (no-false p)
 
 -- what compares alike is alike
-pub same : (s w : List ℕ) → sameAs s w ≡ true → s ≡ w
+pub same : (s w : List ℕ) → sameBytes s w ≡ true → s ≡ w
 same [] [] p = refl
 same [] (y ∷ w) p = absurd (no-false p)
 same (x ∷ s) [] p = absurd (no-false p)

@@ -34,11 +34,11 @@ pub record Unhexing (s out₀ out : List ℕ) (n : ℕ) : Type 0 where
   pub rest : drop n out ≡ drop n out₀
 
 pub unhex-step : (s out₀ out : List ℕ) (n a b : ℕ) → Unhexing s out₀ out n → 2 * n + 1 < length s → n < length out
-    → a ≡ nibbleOf (getD s (2 * n) 0) → b ≡ nibbleOf (getD s (2 * n + 1) 0) → a ≤ 15 → b ≤ 15
+    → a ≡ nibbleOf (getD s (2 * n) 0) → b ≡ nibbleOf (getD s (2 * n + 1) 0) → a < 16 → b < 16
     → Unhexing s out₀ (set out n (a * 16 + b)) (n + 1)
 unhex-step s out₀ out n a b inv h k p q ha hb =
     let u : unhexed (drop (2 * n) s) ≡ (a * 16 + b) ∷ unhexed (drop (2 * (n + 1)) s) =
-    simp (unhexed-pair s n h, ← p, ← q, le-leb a 15 ha, le-leb b 15 hb) in
+    simp (unhexed-pair s n h, ← p, ← q, le-leb a 15 (omega arith), le-leb b 15 (omega arith)) in
     let t : take (n + 1) (set out n (a * 16 + b)) ≡ take n out ++ ((a * 16 + b) ∷ []) = rw add-one (take-suc-set out n (a * 16 + b) k) in
     record {
       same = length-set out n (a * 16 + b) ∙ inv .same;
@@ -64,9 +64,9 @@ stop-first s out₀ out n a inv k h p ha =
     stop s out₀ out n inv k (omega arith) (simp (unhexed-pair s n h, ← p, lt-leb a 15 ha))
 
 pub stop-second : (s out₀ out : List ℕ) (n a b : ℕ) → Unhexing s out₀ out n → n ≤ length out → 2 * n + 1 < length s
-    → a ≡ nibbleOf (getD s (2 * n) 0) → b ≡ nibbleOf (getD s (2 * n + 1) 0) → a ≤ 15 → 15 < b → Unhexed s out₀ n out
+    → a ≡ nibbleOf (getD s (2 * n) 0) → b ≡ nibbleOf (getD s (2 * n + 1) 0) → a < 16 → 15 < b → Unhexed s out₀ n out
 stop-second s out₀ out n a b inv k h p q ha hb =
-    stop s out₀ out n inv k (omega arith) (simp (unhexed-pair s n h, ← p, ← q, le-leb a 15 ha, lt-leb b 15 hb))
+    stop s out₀ out n inv k (omega arith) (simp (unhexed-pair s n h, ← p, ← q, le-leb a 15 (omega arith), lt-leb b 15 hb))
 
 short : (l : List ℕ) → length l ≤ 1 → unhexed l ≡ []
 short [] h = refl
@@ -80,16 +80,16 @@ stop-end s out₀ out n inv k m e =
 
 -- ---- counting
 
-pub count-step : (s : List ℕ) (n a b : ℕ) → 2 * n + 1 < length s → a ≡ nibbleOf (getD s (2 * n) 0) → b ≡ nibbleOf (getD s (2 * n + 1) 0) → a ≤ 15 → b ≤ 15
+pub count-step : (s : List ℕ) (n a b : ℕ) → 2 * n + 1 < length s → a ≡ nibbleOf (getD s (2 * n) 0) → b ≡ nibbleOf (getD s (2 * n + 1) 0) → a < 16 → b < 16
     → n + length (unhexed (drop (2 * n) s)) ≡ (n + 1) + length (unhexed (drop (2 * (n + 1)) s))
-count-step s n a b h p q ha hb = simp (unhexed-pair s n h, ← p, ← q, le-leb a 15 ha, le-leb b 15 hb) (omega arith)
+count-step s n a b h p q ha hb = simp (unhexed-pair s n h, ← p, ← q, le-leb a 15 (omega arith), le-leb b 15 (omega arith)) (omega arith)
 
 pub count-first : (s : List ℕ) (n a : ℕ) → 2 * n + 1 < length s → a ≡ nibbleOf (getD s (2 * n) 0) → 15 < a → length (unhexed (drop (2 * n) s)) ≡ 0
 count-first s n a h p ha = simp (unhexed-pair s n h, ← p, lt-leb a 15 ha)
 
-pub count-second : (s : List ℕ) (n a b : ℕ) → 2 * n + 1 < length s → a ≡ nibbleOf (getD s (2 * n) 0) → b ≡ nibbleOf (getD s (2 * n + 1) 0) → a ≤ 15 → 15 < b
+pub count-second : (s : List ℕ) (n a b : ℕ) → 2 * n + 1 < length s → a ≡ nibbleOf (getD s (2 * n) 0) → b ≡ nibbleOf (getD s (2 * n + 1) 0) → a < 16 → 15 < b
     → length (unhexed (drop (2 * n) s)) ≡ 0
-count-second s n a b h p q ha hb = simp (unhexed-pair s n h, ← p, ← q, le-leb a 15 ha, lt-leb b 15 hb)
+count-second s n a b h p q ha hb = simp (unhexed-pair s n h, ← p, ← q, le-leb a 15 (omega arith), lt-leb b 15 hb)
 
 pub count-end : (s : List ℕ) (n : ℕ) → length s ≤ 2 * n + 1 → length (unhexed (drop (2 * n) s)) ≡ 0
 count-end s n e = rw (short (drop (2 * n) s) (rw length-drop (omega arith))) refl

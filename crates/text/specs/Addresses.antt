@@ -5,9 +5,10 @@ use mathlib.Core.Bool.{cond}
 use mathlib.Core.List.{List, []}
 use lib.ListN.{length}
 use lib.Dec.{eqb, ltb}
+use Rattle.table.specs.Table.{filled}
 use Rattle.wire.specs.Rfc4291.{addressAt}
 use Rattle.wire.specs.Rfc2464.{hardwareAt}
-use Rattle.text.specs.Hex.{unhexed, front}
+use Rattle.text.specs.Hex.{unhexed}
 use Rattle.text.specs.declared.address.Address.{Address}
 use Rattle.text.specs.declared.address.Address.the-variants.{Value, Bad}
 use Rattle.text.specs.declared.address.Hardware.{Hardware}
@@ -36,4 +37,4 @@ bytesOf NoMessage s = []
 
 pub record MessageRead (s out : List ℕ) (r : Message) (out' : List ℕ) : Type 0 where
   pub is : r ≡ messageOf (length out) s
-  pub bytes : out' ≡ front (bytesOf r s) out
+  pub bytes : out' ≡ filled out (bytesOf r s)

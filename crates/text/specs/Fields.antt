@@ -2,7 +2,7 @@
 -- empty field, and no kind of field is empty. Assumes nothing.
 use Prim.Native.Nat.{ℕ, zero, suc, _≤_}
 use mathlib.Core.Path.{_≡_}
-use mathlib.Core.Bool.{Bool, true, false, cond, _&&_}
+use mathlib.Core.Bool.{cond}
 use mathlib.Core.List.{List, [], _∷_}
 use lib.ListN.{length, take}
 use lib.Dec.{eqb}
@@ -20,13 +20,6 @@ onto b (f ∷ fs) = (b ∷ f) ∷ fs
 abbrev pub fields : List ℕ → List Field
 fields [] = [] ∷ []
 fields (b ∷ s) = cond (eqb b 32) ([] ∷ fields s) (onto b (fields s))
-
--- byte by byte
-abbrev pub sameAs : List ℕ → List ℕ → Bool
-sameAs [] [] = true
-sameAs [] (y ∷ w) = false
-sameAs (x ∷ s) [] = false
-sameAs (x ∷ s) (y ∷ w) = eqb x y && sameAs s w
 
 -- the index of the first b, or the length where there is none
 abbrev pub indexOf : ℕ → List ℕ → ℕ

@@ -2,9 +2,10 @@
 use Prim.Native.Nat.{ℕ, _+_, _-_, _*_, _/_, _%_, _≤_}
 use mathlib.Core.Path.{_≡_}
 use mathlib.Core.Bool.{cond, _&&_}
-use mathlib.Core.List.{List, [], _∷_, _++_}
-use lib.ListN.{length, drop}
+use mathlib.Core.List.{List, [], _∷_}
+use lib.ListN.{length}
 use lib.Dec.{ltb, leb}
+use Rattle.table.specs.Table.{filled}
 
 -- the value of a digit, `0` to `9`, `A` to `F` or `a` to `f`; 16 for any other byte
 abbrev pub nibbleOf : ℕ → ℕ
@@ -22,14 +23,10 @@ unhexed [] = []
 unhexed (a ∷ []) = []
 unhexed (a ∷ b ∷ s) = cond (leb (nibbleOf a) 15 && leb (nibbleOf b) 15) ((nibbleOf a * 16 + nibbleOf b) ∷ unhexed s) []
 
--- bs over the front of l
-abbrev pub front : List ℕ → List ℕ → List ℕ
-front bs l = bs ++ drop (length bs) l
-
 pub record Unhexed (s out : List ℕ) (r : ℕ) (out' : List ℕ) : Type 0 where
   pub count : r ≡ length (unhexed s)
   pub most : 2 * r ≤ length s
-  pub is : out' ≡ front (unhexed s) out
+  pub is : out' ≡ filled out (unhexed s)
 
 -- a value's digit, `0` to `9` or `a` to `f`
 abbrev pub glyphOf : ℕ → ℕ

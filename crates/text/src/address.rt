@@ -6,6 +6,14 @@ use crate::hex::unhex;
 use wire::ethernet::HardwareAddress;
 use wire::ipv6::Ipv6Addr;
 
+const ADDRESS_LEN: usize = 16;
+
+const ADDRESS_DIGITS: usize = 2 * ADDRESS_LEN;
+
+const HARDWARE_LEN: usize = 6;
+
+const HARDWARE_DIGITS: usize = 2 * HARDWARE_LEN;
+
 pub enum Address {
     Value(Ipv6Addr),
     Bad,
@@ -22,48 +30,48 @@ pub enum Message {
     Bad,
 }
 
-pub fn read_address(s: &[u8]) -> Address
-    ensures { λ r. ⌜ r ≡ addressOf (now (s .entry)) ⌝ }
+pub fn read_address(field: &[u8]) -> Address
+    ensures { λ r. ⌜ r ≡ addressOf (now (field .entry)) ⌝ }
 {
-    if s.len() != 32 {
+    if field.len() != ADDRESS_DIGITS {
         return Address::Bad;
     }
-    let mut bytes = [0u8; 16];
-    let n = unhex(s, &mut bytes);
-    if n != 16 {
+    let mut bytes = [0u8; ADDRESS_LEN];
+    let count = unhex(field, &mut bytes);
+    if count != ADDRESS_LEN {
         return Address::Bad;
     }
     Address::Value(Ipv6Addr::from_octets(&bytes))
 }
 
-pub fn read_hardware(s: &[u8]) -> Hardware
-    ensures { λ r. ⌜ r ≡ hardwareOf (now (s .entry)) ⌝ }
+pub fn read_hardware(field: &[u8]) -> Hardware
+    ensures { λ r. ⌜ r ≡ hardwareOf (now (field .entry)) ⌝ }
 {
-    if s.len() != 12 {
+    if field.len() != HARDWARE_DIGITS {
         return Hardware::Bad;
     }
-    let mut bytes = [0u8; 6];
-    let n = unhex(s, &mut bytes);
-    if n != 6 {
+    let mut bytes = [0u8; HARDWARE_LEN];
+    let count = unhex(field, &mut bytes);
+    if count != HARDWARE_LEN {
         return Hardware::Bad;
     }
     Hardware::Value(HardwareAddress::from_octets(&bytes))
 }
 
 // A message for which out has room, read into the front of out. Of what is no message nothing is read.
-pub fn read_message(s: &[u8], out: &mut [u8]) -> Message
-    ensures { λ r. ⌜ MessageRead (now (s .entry)) (now (out .entry)) r (now (out .exit)) ⌝ }
+pub fn read_message(field: &[u8], out: &mut [u8]) -> Message
+    ensures { λ r. ⌜ MessageRead (now (field .entry)) (now (out .entry)) r (now (out .exit)) ⌝ }
 {
-    if s.len() / 2 > out.len() {
+    if field.len() / 2 > out.len() {
         return Message::Bad;
     }
-    let n = pairs(s);
-    if n == 0 {
+    let count = pairs(field);
+    if count == 0 {
         return Message::Bad;
     }
-    if 2 * n != s.len() {
+    if 2 * count != field.len() {
         return Message::Bad;
     }
-    let k = unhex(s, out);
-    Message::Bytes(k)
+    let len = unhex(field, out);
+    Message::Bytes(len)
 }

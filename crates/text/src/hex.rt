@@ -4,91 +4,98 @@ ghost use Prim.Native.Nat.{_≤_, _*_, _+_, _<_, _/_, _%_};
 ghost use lib.ListN.{length};
 ghost use Rattle.text.specs.Hex.{nibbleOf, unhexed, Unhexed, glyphOf};
 
-// The value of a digit of either case, 16 for any other byte.
-fn nibble(b: u8) -> u8
-    ensures { λ r. ⌜ (r ≡ nibbleOf b) × (r ≤ 16) ⌝ }
+// The value of a byte that is no digit.
+const NONE: u8 = 16;
+
+// The value of a digit of either case.
+fn nibble(digit: u8) -> u8
+    ensures { λ r. ⌜ (r ≡ nibbleOf digit) × (r ≤ 16) ⌝ }
 {
-    if b < b'0' {
-        return 16;
+    if digit < b'0' {
+        return NONE;
     }
-    if b <= b'9' {
-        return b - b'0';
+    if digit <= b'9' {
+        return digit - b'0';
     }
-    if b < b'A' {
-        return 16;
+    if digit < b'A' {
+        return NONE;
     }
-    if b <= b'F' {
-        return b - b'A' + 10;
+    if digit <= b'F' {
+        return digit - b'A' + 10;
     }
-    if b < b'a' {
-        return 16;
+    if digit < b'a' {
+        return NONE;
     }
-    if b <= b'f' {
-        return b - b'a' + 10;
+    if digit <= b'f' {
+        return digit - b'a' + 10;
     }
-    16
+    NONE
 }
 
-// How many pairs of digits there are, up to the end of s or the first pair that is none.
-pub fn pairs(s: &[u8]) -> usize
-    ensures { λ r. ⌜ (r ≡ length (unhexed (now (s .entry)))) × (2 * r ≤ length (now (s .entry))) ⌝ }
+// How many pairs of digits there are, up to the end or the first pair that is none.
+pub fn pairs(digits: &[u8]) -> usize
+    ensures { λ r. ⌜ (r ≡ length (unhexed (now (digits .entry)))) × (2 * r ≤ length (now (digits .entry))) ⌝ }
 {
-    let most = s.len() / 2;
-    let mut n = 0;
-    while n < most {
-        let a = nibble(s[2 * n]);
-        let b = nibble(s[2 * n + 1]);
-        if a > 15 {
-            return n;
+    let most = digits.len() / 2;
+    let mut count = 0;
+    while count < most {
+        let first = nibble(digits[2 * count]);
+        let second = nibble(digits[2 * count + 1]);
+        if first >= NONE {
+            return count;
         }
-        if b > 15 {
-            return n;
+        if second >= NONE {
+            return count;
         }
-        n += 1;
+        count += 1;
     }
-    n
+    count
 }
 
-// Reads pairs of digits into out, up to the end of s or the first pair that is none, and answers how many.
-pub fn unhex(s: &[u8], out: &mut [u8]) -> usize
-    requires { ⌜ length (now s) ≤ 2 * length (now out) + 1 ⌝ }
-    ensures { λ r. ⌜ Unhexed (now (s .entry)) (now (out .entry)) r (now (out .exit)) ⌝ }
+// Reads pairs of digits into out, up to the end or the first pair that is none, and answers how many.
+pub fn unhex(digits: &[u8], out: &mut [u8]) -> usize
+    requires { ⌜ length (now digits) ≤ 2 * length (now out) + 1 ⌝ }
+    ensures { λ r. ⌜ Unhexed (now (digits .entry)) (now (out .entry)) r (now (out .exit)) ⌝ }
 {
-    let most = s.len() / 2;
-    let mut n = 0;
-    while n < most {
-        let a = nibble(s[2 * n]);
-        let b = nibble(s[2 * n + 1]);
-        if a > 15 {
-            return n;
+    let most = digits.len() / 2;
+    let mut count = 0;
+    while count < most {
+        let first = nibble(digits[2 * count]);
+        let second = nibble(digits[2 * count + 1]);
+        if first >= NONE {
+            return count;
         }
-        if b > 15 {
-            return n;
+        if second >= NONE {
+            return count;
         }
-        out[n] = a * 16 + b;
-        n += 1;
+        out[count] = first * 16 + second;
+        count += 1;
     }
-    n
+    count
 }
 
 // The digit of a value, in lower case.
-fn glyph(d: u8) -> u8
-    requires { ⌜ d < 16 ⌝ }
-    ensures { λ r. ⌜ r ≡ glyphOf d ⌝ }
+fn glyph(value: u8) -> u8
+    requires { ⌜ value < 16 ⌝ }
+    ensures { λ r. ⌜ r ≡ glyphOf value ⌝ }
 {
-    if d < 10 { b'0' + d } else { b'a' - 10 + d }
+    if value < 10 {
+        b'0' + value
+    } else {
+        b'a' - 10 + value
+    }
 }
 
 // A byte's first digit.
-pub fn high(b: u8) -> u8
-    ensures { λ r. ⌜ r ≡ glyphOf (b / 16) ⌝ }
+pub fn high(byte: u8) -> u8
+    ensures { λ r. ⌜ r ≡ glyphOf (byte / 16) ⌝ }
 {
-    glyph(b / 16)
+    glyph(byte / 16)
 }
 
 // A byte's second digit.
-pub fn low(b: u8) -> u8
-    ensures { λ r. ⌜ r ≡ glyphOf (b % 16) ⌝ }
+pub fn low(byte: u8) -> u8
+    ensures { λ r. ⌜ r ≡ glyphOf (byte % 16) ⌝ }
 {
-    glyph(b % 16)
+    glyph(byte % 16)
 }

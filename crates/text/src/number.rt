@@ -3,42 +3,46 @@ ghost use mathlib.Core.Path.{_≡_};
 ghost use Prim.Native.Nat.{_≤_};
 ghost use Rattle.text.specs.Decimal.{digitOf, numberOf};
 
+const LARGEST: u64 = 0xffff_ffff_ffff_ffff;
+
+// The value of a byte that is no digit.
+const NONE: u64 = 10;
+
 pub enum Number {
     Value(u64),
     Bad,
 }
 
-// The value of a digit, 10 for any other byte.
-fn digit(b: u8) -> u64
-    ensures { λ r. ⌜ (r ≡ digitOf b) × (r ≤ 10) ⌝ }
+fn digit(byte: u8) -> u64
+    ensures { λ r. ⌜ (r ≡ digitOf byte) × (r ≤ 10) ⌝ }
 {
-    if b < b'0' {
-        return 10;
+    if byte < b'0' {
+        return NONE;
     }
-    if b > b'9' {
-        return 10;
+    if byte > b'9' {
+        return NONE;
     }
-    (b - b'0') as u64
+    (byte - b'0') as u64
 }
 
-pub fn read_number(s: &[u8]) -> Number
-    ensures { λ r. ⌜ r ≡ numberOf (now (s .entry)) ⌝ }
+pub fn read_number(field: &[u8]) -> Number
+    ensures { λ r. ⌜ r ≡ numberOf (now (field .entry)) ⌝ }
 {
-    if s.len() == 0 {
+    if field.len() == 0 {
         return Number::Bad;
     }
-    let mut v: u64 = 0;
+    let mut value: u64 = 0;
     let mut i = 0;
-    while i < s.len() {
-        let d = digit(s[i]);
-        if d > 9 {
+    while i < field.len() {
+        let next = digit(field[i]);
+        if next >= NONE {
             return Number::Bad;
         }
-        if v > (0xffff_ffff_ffff_ffff - d) / 10 {
+        if value > (LARGEST - next) / 10 {
             return Number::Bad;
         }
-        v = v * 10 + d;
+        value = value * 10 + next;
         i += 1;
     }
-    Number::Value(v)
+    Number::Value(value)
 }

@@ -11,61 +11,61 @@ use crate::hex::low;
 use wire::ethernet::HardwareAddress;
 use wire::ipv6::Ipv6Addr;
 
-pub fn byte(out: &mut [u8], at: usize, b: u8) -> usize
-    ensures { λ r. ⌜ Put (now (out .entry)) at (b ∷ []) r (now (out .exit)) ⌝ }
+pub fn byte(out: &mut [u8], at: usize, value: u8) -> usize
+    ensures { λ r. ⌜ Put (now (out .entry)) at (value ∷ []) r (now (out .exit)) ⌝ }
 {
     if at < out.len() {
-        out[at] = b;
+        out[at] = value;
         return at + 1;
     }
     at
 }
 
-pub fn word(out: &mut [u8], at: usize, bs: &[u8]) -> usize
-    ensures { λ r. ⌜ Put (now (out .entry)) at (now (bs .entry)) r (now (out .exit)) ⌝ }
+pub fn word(out: &mut [u8], at: usize, bytes: &[u8]) -> usize
+    ensures { λ r. ⌜ Put (now (out .entry)) at (now (bytes .entry)) r (now (out .exit)) ⌝ }
 {
     let mut next = at;
     let mut i = 0;
-    while i < bs.len() {
-        next = byte(out, next, bs[i]);
+    while i < bytes.len() {
+        next = byte(out, next, bytes[i]);
         i += 1;
     }
     next
 }
 
 // Bytes in hexadecimal.
-pub fn hexes(out: &mut [u8], at: usize, bs: &[u8]) -> usize
-    ensures { λ r. ⌜ Put (now (out .entry)) at (hexed (now (bs .entry))) r (now (out .exit)) ⌝ }
+pub fn hexes(out: &mut [u8], at: usize, bytes: &[u8]) -> usize
+    ensures { λ r. ⌜ Put (now (out .entry)) at (hexed (now (bytes .entry))) r (now (out .exit)) ⌝ }
 {
     let mut next = at;
     let mut i = 0;
-    while i < bs.len() {
-        let first = byte(out, next, high(bs[i]));
-        next = byte(out, first, low(bs[i]));
+    while i < bytes.len() {
+        let first = byte(out, next, high(bytes[i]));
+        next = byte(out, first, low(bytes[i]));
         i += 1;
     }
     next
 }
 
 // A number in decimal, with no 0 in front.
-pub fn number(out: &mut [u8], at: usize, n: u64) -> usize
-    ensures { λ r. ⌜ Put (now (out .entry)) at (decimal n) r (now (out .exit)) ⌝ }
+pub fn number(out: &mut [u8], at: usize, value: u64) -> usize
+    ensures { λ r. ⌜ Put (now (out .entry)) at (decimal value) r (now (out .exit)) ⌝ }
 {
     let mut digits = [0u8; 20];
-    let k = io::decimal(n, &mut digits);
-    word(out, at, &digits[..k])
+    let len = io::decimal(value, &mut digits);
+    word(out, at, &digits[..len])
 }
 
-pub fn address(out: &mut [u8], at: usize, a: Ipv6Addr) -> usize
-    ensures { λ r. ⌜ Put (now (out .entry)) at (hexed (addressBytes a)) r (now (out .exit)) ⌝ }
+pub fn address(out: &mut [u8], at: usize, addr: Ipv6Addr) -> usize
+    ensures { λ r. ⌜ Put (now (out .entry)) at (hexed (addressBytes addr)) r (now (out .exit)) ⌝ }
 {
-    let bytes = a.octets();
+    let bytes = addr.octets();
     hexes(out, at, &bytes)
 }
 
-pub fn hardware(out: &mut [u8], at: usize, a: HardwareAddress) -> usize
-    ensures { λ r. ⌜ Put (now (out .entry)) at (hexed (hardwareBytes a)) r (now (out .exit)) ⌝ }
+pub fn hardware(out: &mut [u8], at: usize, addr: HardwareAddress) -> usize
+    ensures { λ r. ⌜ Put (now (out .entry)) at (hexed (hardwareBytes addr)) r (now (out .exit)) ⌝ }
 {
-    let bytes = a.octets();
+    let bytes = addr.octets();
     hexes(out, at, &bytes)
 }

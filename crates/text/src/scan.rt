@@ -1,14 +1,15 @@
 // Finding a byte, and comparing with a word.
 ghost use mathlib.Core.Path.{_≡_};
-ghost use Rattle.text.specs.Fields.{Found, sameAs};
+ghost use Rattle.wire.specs.Rfc4291.{sameBytes};
+ghost use Rattle.text.specs.Fields.{Found};
 
-// The index of the first b, or the length where there is none.
-pub fn find(s: &[u8], b: u8) -> usize
-    ensures { λ r. ⌜ Found (now (s .entry)) b r ⌝ }
+// The index of the first such byte, or the length where there is none.
+pub fn find(bytes: &[u8], wanted: u8) -> usize
+    ensures { λ r. ⌜ Found (now (bytes .entry)) wanted r ⌝ }
 {
     let mut i = 0;
-    while i < s.len() {
-        if s[i] == b {
+    while i < bytes.len() {
+        if bytes[i] == wanted {
             return i;
         }
         i += 1;
@@ -17,22 +18,21 @@ pub fn find(s: &[u8], b: u8) -> usize
 }
 
 // The index of the first space, which ends the first field, or the length where there is none.
-pub fn space(s: &[u8]) -> usize
-    ensures { λ r. ⌜ Found (now (s .entry)) 32 r ⌝ }
+pub fn space(line: &[u8]) -> usize
+    ensures { λ r. ⌜ Found (now (line .entry)) 32 r ⌝ }
 {
-    find(s, b' ')
+    find(line, b' ')
 }
 
-// Whether s is the word w.
-pub fn is(s: &[u8], w: &[u8]) -> bool
-    ensures { λ r. ⌜ r ≡ sameAs (now (s .entry)) (now (w .entry)) ⌝ }
+pub fn is(field: &[u8], word: &[u8]) -> bool
+    ensures { λ r. ⌜ r ≡ sameBytes (now (field .entry)) (now (word .entry)) ⌝ }
 {
-    if s.len() != w.len() {
+    if field.len() != word.len() {
         return false;
     }
     let mut i = 0;
-    while i < s.len() {
-        if s[i] != w[i] {
+    while i < field.len() {
+        if field[i] != word[i] {
             return false;
         }
         i += 1;

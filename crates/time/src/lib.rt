@@ -10,6 +10,10 @@ pub struct Instant(pub u64);
 // A length of time, in milliseconds.
 pub struct Duration(pub u64);
 
+const LAST_POINT: u64 = 0xffff_ffff_ffff_ffff;
+
+const MILLIS_PER_SEC: u64 = 1000;
+
 // The earliest point that someone waits for.
 pub enum Deadline {
     None,
@@ -34,82 +38,75 @@ pub struct Answer {
 }
 
 impl Duration {
-    pub fn from_millis(millis: u64) -> Duration
-        ensures { λ r. ⌜ r .0 ≡ millis ⌝ }
-    {
-        Duration(millis)
-    }
-
     // 32 bits of seconds, as a lifetime on the wire has them, fit as milliseconds.
     pub fn from_secs(secs: u32) -> Duration
         ensures { λ r. ⌜ r ≡ secondsOf secs ⌝ }
     {
-        Duration((secs as u64) * 1000)
+        Duration((secs as u64) * MILLIS_PER_SEC)
     }
 }
 
 impl Instant {
     // The one operation that mixes the two. Past 64 bits it is the last point in time.
-    pub fn add(self, d: Duration) -> Instant
-        ensures { λ r. ⌜ r ≡ addOf self d ⌝ }
+    pub fn add(self, duration: Duration) -> Instant
+        ensures { λ r. ⌜ r ≡ addOf self duration ⌝ }
     {
-        let room = 0xffff_ffff_ffff_ffff - self.0;
-        if d.0 <= room {
-            Instant(self.0 + d.0)
+        let room = LAST_POINT - self.0;
+        if duration.0 <= room {
+            Instant(self.0 + duration.0)
         } else {
-            Instant(0xffff_ffff_ffff_ffff)
+            Instant(LAST_POINT)
         }
     }
 }
 
-// The clock with `t` among the times that someone waits for.
-pub fn scheduled(c: Clock, t: Instant) -> Clock
-    ensures { λ r. ⌜ r ≡ scheduledOf c t ⌝ }
+// The clock with `at` among the times that someone waits for.
+pub fn scheduled(clock: Clock, at: Instant) -> Clock
+    ensures { λ r. ⌜ r ≡ scheduledOf clock at ⌝ }
 {
-    let n = c.now;
-    let d = c.deadline;
-    match d {
+    let now = clock.now;
+    let deadline = clock.deadline;
+    match deadline {
         Deadline::None => Clock {
-            now: n,
-            deadline: Deadline::At(t),
+            now: now,
+            deadline: Deadline::At(at),
         },
-        Deadline::At(e) => {
-            if t.0 < e.0 {
+        Deadline::At(earliest) => {
+            if at.0 < earliest.0 {
                 Clock {
-                    now: n,
-                    deadline: Deadline::At(t),
+                    now: now,
+                    deadline: Deadline::At(at),
                 }
             } else {
-                c
+                clock
             }
         }
     }
 }
 
-// Whether `t` has come; a time that has not come is scheduled.
-pub fn asked(c: Clock, t: Instant) -> Answer
-    ensures { λ r. ⌜ r ≡ askedOf c t ⌝ }
+// Whether `at` has come; a time that has not come is scheduled.
+pub fn asked(clock: Clock, at: Instant) -> Answer
+    ensures { λ r. ⌜ r ≡ askedOf clock at ⌝ }
 {
-    if t.0 <= c.now.0 {
-        Answer {
+    if at.0 <= clock.now.0 {
+        return Answer {
             expired: true,
-            clock: c,
-        }
-    } else {
-        let k = scheduled(c, t);
-        Answer {
-            expired: false,
-            clock: k,
-        }
+            clock: clock,
+        };
+    }
+    let waiting = scheduled(clock, at);
+    Answer {
+        expired: false,
+        clock: waiting,
     }
 }
 
 // The same of an end. What never ends is not waited for.
-pub fn asked_of(clock: Clock, e: Expiry) -> Answer
-    ensures { λ r. ⌜ r ≡ askedEnd clock e ⌝ }
+pub fn asked_of(clock: Clock, end: Expiry) -> Answer
+    ensures { λ r. ⌜ r ≡ askedEnd clock end ⌝ }
 {
-    match e {
-        Expiry::At(t) => asked(clock, t),
+    match end {
+        Expiry::At(at) => asked(clock, at),
         Expiry::Forever => Answer {
             expired: false,
             clock: clock,
@@ -123,7 +120,7 @@ impl Expiry {
         ensures { λ r. ⌜ r ≡ isAfter self now ⌝ }
     {
         match self {
-            Expiry::At(t) => now.0 < t.0,
+            Expiry::At(at) => now.0 < at.0,
             Expiry::Forever => true,
         }
     }
@@ -146,17 +143,17 @@ impl Clock {
         self.now
     }
 
-    pub fn expired(&mut self, t: Instant) -> bool
-        ensures { λ r. ⌜ (r ≡ askedOf (now (self .entry)) t .expired) × (now (self .exit) ≡ askedOf (now (self .entry)) t .clock) ⌝ }
+    pub fn expired(&mut self, at: Instant) -> bool
+        ensures { λ r. ⌜ (r ≡ askedOf (now (self .entry)) at .expired) × (now (self .exit) ≡ askedOf (now (self .entry)) at .clock) ⌝ }
     {
-        let a = asked(*self, t);
-        *self = a.clock;
-        a.expired
+        let answer = asked(*self, at);
+        *self = answer.clock;
+        answer.expired
     }
 
-    pub fn schedule(&mut self, t: Instant)
-        ensures { λ _. ⌜ now (self .exit) ≡ scheduledOf (now (self .entry)) t ⌝ }
+    pub fn schedule(&mut self, at: Instant)
+        ensures { λ _. ⌜ now (self .exit) ≡ scheduledOf (now (self .entry)) at ⌝ }
     {
-        *self = scheduled(*self, t);
+        *self = scheduled(*self, at);
     }
 }

@@ -1,2 +1,4 @@
 pub mod Bytes
+pub mod Formed
 pub mod RoundTrip
+pub mod Tests

@@ -60,12 +60,12 @@ spelled : (s : List ℕ) (n i : ℕ) → i + n ≡ length s → drop i s ≡ fro
 spelled s zero i h = let k : length s ≤ i = omega arith in drop-of-length-le s k
 spelled s (suc n) i h = drop-cons s i 0 (omega arith) ∙ ap (λ (l : List ℕ). getD s i 0 ∷ l) (spelled s n (suc i) (omega arith))
 
-at-most : (s : List ℕ) (i : ℕ) → Bytes s → getD s i 0 < 256
+pub at-most : (s : List ℕ) (i : ℕ) → Bytes s → getD s i 0 < 256
 at-most [] i p = omega arith
 at-most (b ∷ s) zero p = p .0
 at-most (b ∷ s) (suc i) p = at-most s i (p .1)
 
-eight-back : (a b c d e f g h : ℕ) → a < 256 → b < 256 → c < 256 → d < 256 → e < 256 → f < 256 → g < 256 → h < 256
+pub eight-back : (a b c d e f g h : ℕ) → a < 256 → b < 256 → c < 256 → d < 256 → e < 256 → f < 256 → g < 256 → h < 256
     → bytes64 (be64 (be32 (be16 a b) (be16 c d)) (be32 (be16 e f) (be16 g h))) ≡ a ∷ b ∷ c ∷ d ∷ e ∷ f ∷ g ∷ h ∷ []
 eight-back a b c d e f g h p q r s t u v w =
     bytes64-back (be32 (be16 a b) (be16 c d)) (be32 (be16 e f) (be16 g h)) (omega arith)

@@ -30,10 +30,6 @@ isUnspecified a = eqb (a .hi) 0 && eqb (a .lo) 0
 abbrev pub isUnicast : Ipv6Addr → Bool
 isUnicast a = not (isMulticast a) && not (isUnspecified a)
 
--- 2.7.1: the all-routers address of the link, ff02::2
-abbrev pub allRouters : List ℕ
-allRouters = 0xff ∷ 0x02 ∷ 0 ∷ 0 ∷ 0 ∷ 0 ∷ 0 ∷ 0 ∷ 0 ∷ 0 ∷ 0 ∷ 0 ∷ 0 ∷ 0 ∷ 0 ∷ 2 ∷ []
-
 abbrev pub sameAddr : Ipv6Addr → Ipv6Addr → Bool
 sameAddr a b = eqb (a .hi) (b .hi) && eqb (a .lo) (b .lo)
 
@@ -47,3 +43,11 @@ sameBytes [] [] = true
 sameBytes [] (y ∷ t) = false
 sameBytes (x ∷ s) [] = false
 sameBytes (x ∷ s) (y ∷ t) = eqb x y && sameBytes s t
+
+-- 2.7.1: the all-routers address of the link, ff02::2
+abbrev pub allRouters : List ℕ
+allRouters = 0xff ∷ 0x02 ∷ 0 ∷ 0 ∷ 0 ∷ 0 ∷ 0 ∷ 0 ∷ 0 ∷ 0 ∷ 0 ∷ 0 ∷ 0 ∷ 0 ∷ 0 ∷ 2 ∷ []
+
+-- document 01: "the sixteen bytes of ff02::2 are written and compared"
+abbrev pub isAllRouters : Ipv6Addr → Bool
+isAllRouters a = sameBytes (addressBytes a) allRouters

@@ -1,4 +1,5 @@
 // Big-endian numbers of 2, 4 and 8 bytes, from the next smaller ones.
+// Here and in all crates `*`, `/` and `%` stand for shifts, masks and xor: facts of sums and remainders the prover closes by itself.
 ghost use mathlib.Core.Path.{_≡_};
 ghost use Rattle.wire.specs.Numbers.{be16, be32, be64};
 

@@ -1,10 +1,16 @@
 // The refusals of document 01, a variant for each cause, and the tests that several calls share.
 ghost use mathlib.Core.Path.{_≡_};
 ghost use mathlib.Core.List.{[], _∷_};
-ghost use Rattle.wire.specs.Refusals.{numberOf, firstRefusal, tooLate, noSuchIface, notUnicast, notUnicastHardware};
+ghost use Rattle.wire.specs.Refusals.{numberOf, notUnicast, ifaceRows, timeRows, keyRows, fillRows, Tested};
 use crate::ethernet::HardwareAddress;
 use crate::ipv6::Ipv6Addr;
 use time::Instant;
+
+// Interfaces are numbered from 0; this is the last.
+pub const LAST_IFACE: u8 = 3;
+
+// The latest time that a call may name: 2^62 ms.
+pub const LATEST: u64 = 0x4000_0000_0000_0000;
 
 pub enum Refusal {
     // A malformed option.
@@ -27,6 +33,12 @@ pub enum Refusal {
     Duplicate,
     // The application's prefix length is above 128.
     PrefixTooLong,
+}
+
+// Whether a call was carried out.
+pub enum Outcome {
+    Refused(Refusal),
+    Done,
 }
 
 // What testing a call's arguments gives.
@@ -54,57 +66,61 @@ impl Refusal {
     }
 }
 
-// The interface.
+// An interface's own number.
 pub fn check_iface(iface: u8) -> Check
-    ensures { λ r. ⌜ r ≡ firstRefusal (noSuchIface iface ∷ []) ⌝ }
+    ensures { λ r. ⌜ Tested (ifaceRows iface) r ⌝ }
 {
-    if iface > 3 {
+    if iface > LAST_IFACE {
         return Check::Refused(Refusal::NoSuchIface);
     }
     Check::Fine
 }
 
 // A time, then the interface.
-pub fn check_time(t: Instant, iface: u8) -> Check
-    ensures { λ r. ⌜ r ≡ firstRefusal (tooLate t ∷ noSuchIface iface ∷ []) ⌝ }
+pub fn check_time(at: Instant, iface: u8) -> Check
+    ensures { λ r. ⌜ Tested (timeRows at iface) r ⌝ }
 {
-    if t.0 > 0x4000_0000_0000_0000 {
+    if at.0 > LATEST {
         return Check::Refused(Refusal::TooLate);
     }
-    if iface > 3 {
-        return Check::Refused(Refusal::NoSuchIface);
-    }
-    Check::Fine
+    check_iface(iface)
 }
 
-// The interface, then a neighbour's address.
-pub fn check_key(iface: u8, addr: Ipv6Addr) -> Check
-    ensures { λ r. ⌜ r ≡ firstRefusal (noSuchIface iface ∷ notUnicast addr ∷ []) ⌝ }
+fn check_unicast(addr: Ipv6Addr) -> Check
+    ensures { λ r. ⌜ Tested (notUnicast addr ∷ []) r ⌝ }
 {
-    if iface > 3 {
-        return Check::Refused(Refusal::NoSuchIface);
-    }
     if addr.is_unicast() {
         return Check::Fine;
     }
     Check::Refused(Refusal::NotUnicast)
 }
 
-// A time, the interface, a neighbour's address, its hardware address.
-pub fn check_fill(t: Instant, iface: u8, addr: Ipv6Addr, hardware_addr: HardwareAddress) -> Check
-    ensures { λ r. ⌜ r ≡ firstRefusal (tooLate t ∷ noSuchIface iface ∷ notUnicast addr ∷ notUnicastHardware «hardware_addr» ∷ []) ⌝ }
+// The interface, then a neighbour's address.
+pub fn check_key(iface: u8, addr: Ipv6Addr) -> Check
+    ensures { λ r. ⌜ Tested (keyRows iface addr) r ⌝ }
 {
-    if t.0 > 0x4000_0000_0000_0000 {
+    let check = check_iface(iface);
+    match check {
+        Check::Refused(why) => Check::Refused(why),
+        Check::Fine => check_unicast(addr),
+    }
+}
+
+// A time, the interface, a neighbour's address, its hardware address.
+pub fn check_fill(at: Instant, iface: u8, addr: Ipv6Addr, hardware_addr: HardwareAddress) -> Check
+    ensures { λ r. ⌜ Tested (fillRows at iface addr «hardware_addr») r ⌝ }
+{
+    if at.0 > LATEST {
         return Check::Refused(Refusal::TooLate);
     }
-    if iface > 3 {
-        return Check::Refused(Refusal::NoSuchIface);
-    }
-    if addr.is_unicast() {
-        if hardware_addr.is_unicast() {
-            return Check::Fine;
+    let check = check_key(iface, addr);
+    match check {
+        Check::Refused(why) => Check::Refused(why),
+        Check::Fine => {
+            if hardware_addr.is_unicast() {
+                return Check::Fine;
+            }
+            Check::Refused(Refusal::NotUnicast)
         }
-        return Check::Refused(Refusal::NotUnicast);
     }
-    Check::Refused(Refusal::NotUnicast)
 }

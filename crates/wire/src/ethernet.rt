@@ -9,19 +9,26 @@ pub struct HardwareAddress {
 }
 
 // The bit of value 0x02 turned over.
-fn flip(b: u8) -> u8
-    ensures { λ r. ⌜ r ≡ flipped b ⌝ }
+fn flip(octet: u8) -> u8
+    ensures { λ r. ⌜ r ≡ flipped octet ⌝ }
 {
-    if b / 2 % 2 == 1 { b - 2 } else { b + 2 }
+    if octet / 2 % 2 == 1 {
+        octet - 2
+    } else {
+        octet + 2
+    }
 }
 
 impl HardwareAddress {
-    pub fn from_octets(b: &[u8; 6]) -> HardwareAddress
-        ensures { λ r. ⌜ r ≡ hardwareAt (now (b .entry)) 0 ⌝ }
+    pub fn from_octets(octets: &[u8; 6]) -> HardwareAddress
+        ensures { λ r. ⌜ r ≡ hardwareAt (now (octets .entry)) 0 ⌝ }
     {
         HardwareAddress {
-            hi: byteorder::be16(b[0], b[1]),
-            lo: byteorder::be32(byteorder::be16(b[2], b[3]), byteorder::be16(b[4], b[5])),
+            hi: byteorder::be16(octets[0], octets[1]),
+            lo: byteorder::be32(
+                byteorder::be16(octets[2], octets[3]),
+                byteorder::be16(octets[4], octets[5]),
+            ),
         }
     }
 
@@ -48,16 +55,23 @@ impl HardwareAddress {
     pub fn same(self, other: HardwareAddress) -> bool
         ensures { λ r. ⌜ r ≡ sameHardware self other ⌝ }
     {
-        let h = self.hi == other.hi;
-        let l = self.lo == other.lo;
-        h & l
+        (self.hi == other.hi) & (self.lo == other.lo)
     }
 
     // ff fe stands in the middle.
     pub fn as_eui_64(self) -> [u8; 8]
         ensures { λ r. ⌜ r ≡ euiBytes self ⌝ }
     {
-        let m = self.octets();
-        [flip(m[0]), m[1], m[2], 0xff, 0xfe, m[3], m[4], m[5]]
+        let mac = self.octets();
+        [
+            flip(mac[0]),
+            mac[1],
+            mac[2],
+            0xff,
+            0xfe,
+            mac[3],
+            mac[4],
+            mac[5],
+        ]
     }
 }

@@ -1,8 +1,7 @@
 // IPv6 addresses and prefixes (RFC 4291): two halves of 64 bits in tables, sixteen bytes at the border.
 ghost use mathlib.Core.Path.{_≡_};
-ghost use mathlib.Core.Bool.{_&&_, not};
-ghost use Rattle.wire.specs.Rfc4291.{addressAt, addressBytes, allRouters, isMulticast, isLinkLocal, isUnspecified, isUnicast, sameAddr, sameCidr, sameBytes};
-ghost use Rattle.wire.specs.Rfc2464.{formedOf};
+ghost use Rattle.wire.specs.Rfc4291.{addressAt, addressBytes, isAllRouters, isMulticast, isLinkLocal, isUnspecified, isUnicast, sameAddr, sameCidr, sameBytes};
+ghost use Rattle.wire.specs.Rfc2464.{isFormedFrom, Forms};
 use crate::byteorder;
 use crate::ethernet::HardwareAddress;
 
@@ -22,43 +21,64 @@ pub enum Formed {
     Addr(Ipv6Cidr),
 }
 
+// The length of a prefix that forms an address.
+const FORMING_LEN: u8 = 64;
+
 // ff02::2
 pub const LINK_LOCAL_ALL_ROUTERS: [u8; 16] = [0xff, 0x02, 0, 0, 0, 0, 0, 0, 0, 0, 0, 0, 0, 0, 0, 2];
 
 impl Ipv6Addr {
-    pub fn from_octets(b: &[u8; 16]) -> Ipv6Addr
-        ensures { λ r. ⌜ r ≡ addressAt (now (b .entry)) 0 ⌝ }
+    pub fn from_octets(octets: &[u8; 16]) -> Ipv6Addr
+        ensures { λ r. ⌜ r ≡ addressAt (now (octets .entry)) 0 ⌝ }
     {
         Ipv6Addr {
-            hi: byteorder::eight(b[0], b[1], b[2], b[3], b[4], b[5], b[6], b[7]),
-            lo: byteorder::eight(b[8], b[9], b[10], b[11], b[12], b[13], b[14], b[15]),
+            hi: byteorder::eight(
+                octets[0],
+                octets[1],
+                octets[2],
+                octets[3],
+                octets[4],
+                octets[5],
+                octets[6],
+                octets[7],
+            ),
+            lo: byteorder::eight(
+                octets[8],
+                octets[9],
+                octets[10],
+                octets[11],
+                octets[12],
+                octets[13],
+                octets[14],
+                octets[15],
+            ),
         }
     }
 
     pub fn octets(self) -> [u8; 16]
         ensures { λ r. ⌜ r ≡ addressBytes self ⌝ }
     {
-        let a = (self.hi / 4294967296) as u32;
-        let b = (self.hi % 4294967296) as u32;
-        let c = (self.lo / 4294967296) as u32;
-        let d = (self.lo % 4294967296) as u32;
+        let word0 = (self.hi / 4294967296) as u32;
+        let word1 = (self.hi % 4294967296) as u32;
+        let word2 = (self.lo / 4294967296) as u32;
+        let word3 = (self.lo % 4294967296) as u32;
         [
-            (a / 65536 / 256) as u8,
-            (a / 65536 % 256) as u8,
-            (a % 65536 / 256) as u8,
-            (a % 65536 % 256) as u8,
-            (b / 65536 / 256) as u8,
-            (b / 65536 % 256) as u8,
-            (b % 65536 / 256) as u8,
-            (b % 65536 % 256) as u8,
-            (c / 65536 / 256) as u8,
-            (c / 65536 % 256) as u8,
-            (c % 65536 / 256) as u8,
-            (c % 65536 % 256) as u8,
-            (d / 65536 / 256) as u8,
-            (d / 65536 % 256) as u8,
-            (d % 65536 / 256) as u8,
-            (d % 65536 % 256) as u8,
+            (word0 / 65536 / 256) as u8,
+            (word0 / 65536 % 256) as u8,
+            (word0 % 65536 / 256) as u8,
+            (word0 % 65536 % 256) as u8,
+            (word1 / 65536 / 256) as u8,
+            (word1 / 65536 % 256) as u8,
+            (word1 % 65536 / 256) as u8,
+            (word1 % 65536 % 256) as u8,
+            (word2 / 65536 / 256) as u8,
+            (word2 / 65536 % 256) as u8,
+            (word2 % 65536 / 256) as u8,
+            (word2 % 65536 % 256) as u8,
+            (word3 / 65536 / 256) as u8,
+            (word3 / 65536 % 256) as u8,
+            (word3 % 65536 / 256) as u8,
+            (word3 % 65536 % 256) as u8,
         ]
     }
 
@@ -80,26 +100,37 @@ impl Ipv6Addr {
     pub fn is_unspecified(self) -> bool
         ensures { λ r. ⌜ r ≡ isUnspecified self ⌝ }
     {
-        let h = self.hi == 0;
-        let l = self.lo == 0;
-        h & l
+        (self.hi == 0) & (self.lo == 0)
     }
 
     pub fn is_unicast(self) -> bool
         ensures { λ r. ⌜ r ≡ isUnicast self ⌝ }
     {
-        let m = self.hi / 0x100_0000_0000_0000 == 0xff;
-        let h = self.hi == 0;
-        let l = self.lo == 0;
-        !m & !(h & l)
+        !self.is_multicast() & !self.is_unspecified()
     }
 
     pub fn same(self, other: Ipv6Addr) -> bool
         ensures { λ r. ⌜ r ≡ sameAddr self other ⌝ }
     {
-        let h = self.hi == other.hi;
-        let l = self.lo == other.lo;
-        h & l
+        (self.hi == other.hi) & (self.lo == other.lo)
+    }
+
+    // Whether its sixteen bytes are those of ff02::2.
+    pub fn is_all_routers(self) -> bool
+        ensures { λ r. ⌜ r ≡ isAllRouters self ⌝ }
+    {
+        let octets = self.octets();
+        let all_routers = LINK_LOCAL_ALL_ROUTERS;
+        same_octets(&octets, &all_routers)
+    }
+
+    // Whether its last eight bytes are the hardware address's EUI-64, ff fe in the middle among them.
+    pub fn is_formed_from(self, hardware_addr: HardwareAddress) -> bool
+        ensures { λ r. ⌜ r ≡ isFormedFrom «hardware_addr» self ⌝ }
+    {
+        let octets = self.octets();
+        let eui = hardware_addr.as_eui_64();
+        same_octets(&octets[8..], &eui)
     }
 }
 
@@ -107,39 +138,49 @@ impl Ipv6Cidr {
     pub fn same(self, other: Ipv6Cidr) -> bool
         ensures { λ r. ⌜ r ≡ sameCidr self other ⌝ }
     {
-        let h = self.address.hi == other.address.hi;
-        let l = self.address.lo == other.address.lo;
-        let n = self.prefix_len == other.prefix_len;
-        h & l & n
+        let address = self.address;
+        let other_address = other.address;
+        address.same(other_address) & (self.prefix_len == other.prefix_len)
     }
 
     // Only a prefix of 64 bits forms an address: its first eight bytes, and then EUI-64.
     pub fn from_link_prefix(self, hardware_addr: HardwareAddress) -> Formed
-        ensures { λ r. ⌜ r ≡ formedOf «hardware_addr» self ⌝ }
+        ensures { λ r. ⌜ Forms «hardware_addr» self r ⌝ }
     {
-        if self.prefix_len != 64 {
+        if self.prefix_len != FORMING_LEN {
             return Formed::Nothing;
         }
-        let e = hardware_addr.as_eui_64();
-        let low = byteorder::eight(e[0], e[1], e[2], e[3], e[4], e[5], e[6], e[7]);
+        let eui = hardware_addr.as_eui_64();
+        let low = byteorder::eight(
+            eui[0],
+            eui[1],
+            eui[2],
+            eui[3],
+            eui[4],
+            eui[5],
+            eui[6],
+            eui[7],
+        );
         Formed::Addr(Ipv6Cidr {
             address: Ipv6Addr {
                 hi: self.address.hi,
                 lo: low,
             },
-            prefix_len: 64,
+            prefix_len: FORMING_LEN,
         })
     }
 }
 
-// Whether an address's bytes are those of ff02::2.
-pub fn is_all_routers(b: [u8; 16]) -> bool
-    ensures { λ r. ⌜ r ≡ sameBytes b allRouters ⌝ }
+// The same bytes, one by one.
+fn same_octets(octets: &[u8], other: &[u8]) -> bool
+    ensures { λ r. ⌜ r ≡ sameBytes (now (octets .entry)) (now (other .entry)) ⌝ }
 {
-    let all = LINK_LOCAL_ALL_ROUTERS;
+    if octets.len() != other.len() {
+        return false;
+    }
     let mut i = 0;
-    while i < 16 {
-        if b[i] != all[i] {
+    while i < octets.len() {
+        if octets[i] != other[i] {
             return false;
         }
         i += 1;

@@ -15,17 +15,17 @@ mod port {
     include!(concat!(env!("OUT_DIR"), "/port.rs"));
 }
 
+use port::autoconf::{AdvertAnswer, PollAnswer, process_advertisement, turn_off};
 use port::iface::addr::{AddrAt, AddrOrigin, IfaceAddrs};
 use port::iface::route::{RouteAt, RouteOrigin, Routes};
-use port::learned::{Phase, PrefixAt, RouterAt, Slaac};
-use port::neighbor::{Answer, Got, Neighbor, NeighborCache, NeighborState, Outcome, State};
 use port::ndisc::ndisc::{Solicited, write_solicit};
 use port::ndisc::ndiscoption::{self, Checked, NdiscOption, PrefixInformation, Written};
+use port::neighbor::{Answer, Got, Neighbor, NeighborCache, NeighborState, State};
 use port::pending::{PendingQueue, Push, Release, Waiting};
-use port::slaac::{AdvertAnswer, PollAnswer, process_advertisement, turn_off};
+use port::slaac::{Phase, PrefixAt, RouterAt, Slaac};
 use port::sweep::ProbeEvent;
 use port::time::{Clock, Deadline, Expiry, Instant};
-use port::wire::error::Refusal;
+use port::wire::error::{Outcome, Refusal};
 use port::wire::ethernet::HardwareAddress;
 use port::wire::ipv6::{Ipv6Addr, Ipv6Cidr};
 
@@ -128,10 +128,10 @@ impl Port {
         }
     }
 
-    fn learned(&mut self, iface: u8, c: port::learned::Changed) -> Result<(), Refused> {
+    fn learned(&mut self, iface: u8, c: port::slaac::Changed) -> Result<(), Refused> {
         match c.outcome {
-            port::learned::Outcome::Refused(why) => Err(number(why)),
-            port::learned::Outcome::Done => {
+            Outcome::Refused(why) => Err(number(why)),
+            Outcome::Done => {
                 self.slaac[usize::from(iface)] = c.slaac;
                 Ok(())
             }
@@ -326,8 +326,8 @@ impl Side for Port {
         let table = self.addrs[usize::from(iface.min(3))];
         let a = table.add_ip_addr(iface, cidr);
         match a.outcome {
-            port::iface::Outcome::Refused(why) => Err(number(why)),
-            port::iface::Outcome::Done => {
+            Outcome::Refused(why) => Err(number(why)),
+            Outcome::Done => {
                 self.addrs[usize::from(iface)] = a.addrs;
                 Ok(())
             }
@@ -341,8 +341,8 @@ impl Side for Port {
         let a = self.routes.add_route(iface, default, ip(via));
         self.routes = a.routes;
         match a.outcome {
-            port::iface::Outcome::Refused(why) => Err(number(why)),
-            port::iface::Outcome::Done => Ok(()),
+            Outcome::Refused(why) => Err(number(why)),
+            Outcome::Done => Ok(()),
         }
     }
     fn link(&mut self, iface: u8, up: bool) -> Result<(), Refused> {
@@ -363,8 +363,8 @@ impl Side for Port {
         let t = turn_off(self.slaac[i], self.addrs[i], self.routes, self.cache, self.queue, iface);
         (self.slaac[i], self.addrs[i], self.routes, self.cache, self.queue) = (t.slaac, t.addrs, t.routes, t.cache, t.queue);
         match t.outcome {
-            port::learned::Outcome::Refused(why) => Err(number(why)),
-            port::learned::Outcome::Done => Ok(()),
+            Outcome::Refused(why) => Err(number(why)),
+            Outcome::Done => Ok(()),
         }
     }
     fn advertise(&mut self, iface: u8, source: Addr, now: u64, message: &[u8]) -> Result<bool, Refused> {

@@ -45,7 +45,7 @@ use denote.Triple.Spec.{Meets, tripleOf}
 use denote.Triple.Table.{entered, cited}
 use denote.Triple.Walked.{says, Stays, stay-ref, stay-none, gave-slice, walkOf, AllGo, goes-none, goes-ref, goes-gave-slice, Walks, ends-at, walked, walk-meets}
 use denote.Exit.{yes}
-use Rattle.slaac.specs.PollRules.{PolledTo}
+use Rattle.autoconf.specs.PollRules.{PolledTo}
 use Rattle.lent.specs.LentRules.{PolledBy}
 use Rattle.lent.proofs.LentLaws.{polled-by}
 use Rattle.time.specs.declared.Clock.{Clock}
@@ -57,22 +57,22 @@ use Rattle.wire.proofs.ethernet.HardwareAddress.Laws as laws-HardwareAddress
 use Rattle.iface.specs.declared.addr.IfaceAddrs.{IfaceAddrs}
 use Rattle.iface.proofs.addr.IfaceAddrs as row-IfaceAddrs
 use Rattle.iface.proofs.addr.IfaceAddrs.Laws as laws-IfaceAddrs
-use Rattle.slaac.specs.declared.Polled.{Polled}
-use Rattle.slaac.proofs.Polled as row-Polled
-use Rattle.slaac.proofs.Polled.Laws as laws-Polled
-use Rattle.slaac.specs.declared.PolledAt.{PolledAt}
-use Rattle.slaac.proofs.PolledAt as row-PolledAt
-use Rattle.slaac.proofs.PolledAt.Laws as laws-PolledAt
+use Rattle.autoconf.specs.declared.Polled.{Polled}
+use Rattle.autoconf.proofs.Polled as row-Polled
+use Rattle.autoconf.proofs.Polled.Laws as laws-Polled
+use Rattle.autoconf.specs.declared.PolledAt.{PolledAt}
+use Rattle.autoconf.proofs.PolledAt as row-PolledAt
+use Rattle.autoconf.proofs.PolledAt.Laws as laws-PolledAt
 use Rattle.iface.specs.declared.route.Routes.{Routes}
 use Rattle.iface.proofs.route.Routes as row-Routes
 use Rattle.iface.proofs.route.Routes.Laws as laws-Routes
-use Rattle.learned.specs.declared.Slaac.{Slaac}
-use Rattle.learned.proofs.Slaac as row-Slaac
-use Rattle.learned.proofs.Slaac.Laws as laws-Slaac
-use Rattle.slaac.proofs.poll_at as callee1
-use Rattle.slaac.proofs.poll_at.Symbol as callee1-def
-use Rattle.slaac.proofs.poll_at.Symbol.{name as #callee1}
-use Rattle.slaac.proofs.poll_at.Met as callee1-thm
+use Rattle.slaac.specs.declared.Slaac.{Slaac}
+use Rattle.slaac.proofs.Slaac as row-Slaac
+use Rattle.slaac.proofs.Slaac.Laws as laws-Slaac
+use Rattle.autoconf.proofs.poll_at as callee1
+use Rattle.autoconf.proofs.poll_at.Symbol as callee1-def
+use Rattle.autoconf.proofs.poll_at.Symbol.{name as #callee1}
+use Rattle.autoconf.proofs.poll_at.Met as callee1-thm
 use Rattle.lent.proofs.poll.Key.{name as #this}
 use Rattle.lent.proofs.poll as this
 use Rattle.lent.proofs.poll.Statement as stated
@@ -218,4 +218,4 @@ poll-spec 𝓤 H 𝓜 𝓖 𝓡 =
     entered 𝓤 H (tripleOf 𝓤 H (𝓖 .A) this.signature (this.spec 𝓤 H (𝓖 .A) (𝓜 .mem) (𝓡 .run)))
     (tables 𝓤 H 𝓜 𝓡 code.env .C) (tables 𝓤 H 𝓜 𝓡 code.env .Λ) #this code.function (code.unfolded 𝓤 H 𝓜 𝓡)
     (meets 𝓤 H (𝓖 .A) (givenOf 𝓤 H 𝓜 𝓖) (𝓜 .mem) (𝓡 .run) (tablesOf 𝓤 H 𝓜 (tables 𝓤 H 𝓜 𝓡 code.env))
-    (cited 𝓤 H (Callee-callee1 𝓤 H (𝓖 .A) (𝓜 .mem) (𝓡 .run)) 𝓜 𝓡 code.env #callee1 callee1-def.routine code.calls-slaac·poll-at (callee1-thm.met 𝓤 H 𝓜 𝓖 𝓡)))
+    (cited 𝓤 H (Callee-callee1 𝓤 H (𝓖 .A) (𝓜 .mem) (𝓡 .run)) 𝓜 𝓡 code.env #callee1 callee1-def.routine code.calls-autoconf·poll-at (callee1-thm.met 𝓤 H 𝓜 𝓖 𝓡)))

@@ -54,9 +54,9 @@ use Rattle.sweep.proofs.Events.Laws as laws-Events
 use Rattle.neighbor.specs.declared.NeighborCache.{NeighborCache}
 use Rattle.neighbor.proofs.NeighborCache as row-NeighborCache
 use Rattle.neighbor.proofs.NeighborCache.Laws as laws-NeighborCache
-use Rattle.neighbor.specs.declared.Outcome.{Outcome}
-use Rattle.neighbor.proofs.Outcome as row-Outcome
-use Rattle.neighbor.proofs.Outcome.Laws as laws-Outcome
+use Rattle.wire.specs.declared.error.Outcome.{Outcome}
+use Rattle.wire.proofs.error.Outcome as row-Outcome
+use Rattle.wire.proofs.error.Outcome.Laws as laws-Outcome
 use Rattle.lent.specs.declared.Reported.{Reported}
 use Rattle.lent.proofs.Reported as row-Reported
 use Rattle.lent.proofs.Reported.Laws as laws-Reported

@@ -6,7 +6,7 @@ use Rattle.replay.proofs.open_part.Statement.{statement}
 use Rattle.replay.proofs.open_part.Tie as tie
 
 slice-aggregate-open-read : tie.Need-slice-aggregate-open-read
-slice-aggregate-open-read c = sym (length-take-le (c .before .before .before .args .n) (c .before .before .before .args .path .now) (omega arith))
+slice-aggregate-open-read c = sym (length-take-le (c .before .before .before .args .len) (c .before .before .before .args .path .now) (omega arith))
 
 open-read-requires : tie.Need-open-read-requires
 open-read-requires c κs = search needs

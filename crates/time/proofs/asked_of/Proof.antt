@@ -3,8 +3,8 @@ use borrow.Author.Needs.{needs}
 use Rattle.time.proofs.asked_of.Statement.{statement}
 use Rattle.time.proofs.asked_of.Tie as tie
 
-enum-known-e : tie.Need-enum-known-e
-enum-known-e c = search needs
+enum-known-end : tie.Need-enum-known-end
+enum-known-end c = search needs
 
 asked-requires : tie.Need-asked-requires
 asked-requires c κs = search needs
@@ -13,10 +13,10 @@ enum-told : tie.Need-enum-told
 enum-told c = search needs
 
 returns : tie.Need-returns
-returns c = simp (c .before .before .e .given .1, c .asked .ensures)
+returns c = simp (c .before .before .end .given .1, c .asked .ensures)
 
 returns-2 : tie.Need-returns-2
 returns-2 c = simp (c .enum-told .given .1)
 
 pub asked-of-spec : {M : Type 1} → statement M
-asked-of-spec = tie.close (tie.spec enum-known-e asked-requires enum-told returns returns-2)
+asked-of-spec = tie.close (tie.spec enum-known-end asked-requires enum-told returns returns-2)

@@ -17,8 +17,8 @@ slice-aggregate-read-number c = search needs
 read-number-requires : tie.Need-read-number-requires
 read-number-requires c κs = search needs
 
-enum-known-t : tie.Need-enum-known-t
-enum-known-t c = search needs
+enum-known-time : tie.Need-enum-known-time
+enum-known-time c = search needs
 
 add-read-event : tie.Need-add-read-event
 add-read-event c = search needs
@@ -35,8 +35,8 @@ part-read-event-end c = search needs
 read-event-requires : tie.Need-read-event-requires
 read-event-requires c κs = search needs
 
-enum-known-e : tie.Need-enum-known-e
-enum-known-e c = search needs
+enum-known-event : tie.Need-enum-known-event
+enum-known-event c = search needs
 
 enum-told : tie.Need-enum-told
 enum-told c = search needs
@@ -48,13 +48,13 @@ same-length : tie.Need-same-length
 same-length c = search needs
 
 returns-2 : tie.Need-returns-2
-returns-2 c = line-good (c .before .before .before .before .before .before .before .before .before .before .before .before .before .before .before .before .before .args .line .now) (c .before .before .before .before .before .before .before .before .before .before .before .before .before .before .before .before .before .args .message .now) _ _ (cut-at (c .before .before .before .before .before .before .before .before .before .before .before .before .before .before .before .before .before .args .line .now) (c .before .before .before .before .before .before .before .before .before .before .before .before .before .before .space .result) (c .before .before .before .before .before .before .before .before .before .before .before .before .before .before .space .ensures) (c .before .before .before .before .before .before .before .before .before .before .before .before .before .if1 .left)) _ (sym (c .before .before .before .before .before .before .before .before .before .before .before .read-number .ensures) ∙ c .before .before .before .before .before .before .before .before .before .t .given .1) _ _ (c .before .before .before .before .before .read-event .ensures) _ (c .before .e .given .1)
+returns-2 c = line-good (c .before .before .before .before .before .before .before .before .before .before .before .before .before .before .before .before .before .args .line .now) (c .before .before .before .before .before .before .before .before .before .before .before .before .before .before .before .before .before .args .message .now) _ _ (cut-at (c .before .before .before .before .before .before .before .before .before .before .before .before .before .before .before .before .before .args .line .now) (c .before .before .before .before .before .before .before .before .before .before .before .before .before .before .space .result) (c .before .before .before .before .before .before .before .before .before .before .before .before .before .before .space .ensures) (c .before .before .before .before .before .before .before .before .before .before .before .before .before .if1 .left)) _ (sym (c .before .before .before .before .before .before .before .before .before .before .before .read-number .ensures) ∙ c .before .before .before .before .before .before .before .before .before .time .given .1) _ _ (c .before .before .before .before .before .read-event .ensures) _ (c .before .event .given .1)
 
 same-length-2 : tie.Need-same-length-2
 same-length-2 c = search needs
 
 returns-3 : tie.Need-returns-3
-returns-3 c = line-bad (c .before .before .before .before .before .before .before .before .before .before .before .before .before .before .before .before .args .line .now) (c .before .before .before .before .before .before .before .before .before .before .before .before .before .before .before .before .args .message .now) _ _ (cut-at (c .before .before .before .before .before .before .before .before .before .before .before .before .before .before .before .before .args .line .now) (c .before .before .before .before .before .before .before .before .before .before .before .before .before .space .result) (c .before .before .before .before .before .before .before .before .before .before .before .before .before .space .ensures) (c .before .before .before .before .before .before .before .before .before .before .before .before .if1 .left)) _ (sym (c .before .before .before .before .before .before .before .before .before .before .read-number .ensures) ∙ c .before .before .before .before .before .before .before .before .t .given .1) _ _ (c .before .before .before .before .read-event .ensures) (c .enum-told .given .1)
+returns-3 c = line-bad (c .before .before .before .before .before .before .before .before .before .before .before .before .before .before .before .before .args .line .now) (c .before .before .before .before .before .before .before .before .before .before .before .before .before .before .before .before .args .message .now) _ _ (cut-at (c .before .before .before .before .before .before .before .before .before .before .before .before .before .before .before .before .args .line .now) (c .before .before .before .before .before .before .before .before .before .before .before .before .before .space .result) (c .before .before .before .before .before .before .before .before .before .before .before .before .before .space .ensures) (c .before .before .before .before .before .before .before .before .before .before .before .before .if1 .left)) _ (sym (c .before .before .before .before .before .before .before .before .before .before .read-number .ensures) ∙ c .before .before .before .before .before .before .before .before .time .given .1) _ _ (c .before .before .before .before .read-event .ensures) (c .enum-told .given .1)
 
 returns-4 : tie.Need-returns-4
 returns-4 c = line-no (c .before .before .before .before .before .before .before .before .args .line .now) (c .before .before .before .before .before .before .before .before .args .message .now) _ _ (cut-at (c .before .before .before .before .before .before .before .before .args .line .now) (c .before .before .before .before .before .space .result) (c .before .before .before .before .before .space .ensures) (c .before .before .before .before .if1 .left)) (sym (c .before .before .read-number .ensures) ∙ c .enum-told2 .given .1)
@@ -67,13 +67,13 @@ parse-event-spec =
     returns
     slice-aggregate-read-number
     read-number-requires
-    enum-known-t
+    enum-known-time
     add-read-event
     sub-read-event
     part-read-event-start
     part-read-event-end
     read-event-requires
-    enum-known-e
+    enum-known-event
     enum-told
     enum-told-2
     same-length

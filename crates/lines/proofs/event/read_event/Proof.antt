@@ -12,22 +12,22 @@ read-word-requires : tie.Need-read-word-requires
 read-word-requires c κs = search needs
 
 returns : tie.Need-returns
-returns c = kind-word (c .before .before .before .before .before .args .s .now) (c .before .before .before .before .before .args .message .now) _ (one-field (c .before .before .before .before .before .args .s .now) (c .before .before .space .result) (c .before .before .space .ensures) (c .before .if1 .taken)) (c .read-word .ensures .0) (c .read-word .ensures .1)
+returns c = kind-word (c .before .before .before .before .before .args .rest .now) (c .before .before .before .before .before .args .message .now) _ (one-field (c .before .before .before .before .before .args .rest .now) (c .before .before .space .result) (c .before .before .space .ensures) (c .before .if1 .taken)) (c .read-word .ensures .0) (c .read-word .ensures .1)
 
-slice-aggregate-w : tie.Need-slice-aggregate-w
-slice-aggregate-w c = search needs
+slice-aggregate-word : tie.Need-slice-aggregate-word
+slice-aggregate-word c = search needs
 
-add-t : tie.Need-add-t
-add-t c = search needs
+add-fields : tie.Need-add-fields
+add-fields c = search needs
 
-sub-t : tie.Need-sub-t
-sub-t c = search needs
+sub-fields : tie.Need-sub-fields
+sub-fields c = search needs
 
-part-t-start : tie.Need-part-t-start
-part-t-start c = search needs
+part-fields-start : tie.Need-part-fields-start
+part-fields-start c = search needs
 
-part-t-end : tie.Need-part-t-end
-part-t-end c = search needs
+part-fields-end : tie.Need-part-fields-end
+part-fields-end c = search needs
 
 slice-aggregate-is : tie.Need-slice-aggregate-is
 slice-aggregate-is c = search needs
@@ -42,7 +42,7 @@ same-length : tie.Need-same-length
 same-length c = search needs
 
 returns-2 : tie.Need-returns-2
-returns-2 c = kind-ra (c .before .before .before .before .before .before .before .before .before .before .before .before .before .args .s .now) (c .before .before .before .before .before .before .before .before .before .before .before .before .before .args .message .now) _ _ (cut-at (c .before .before .before .before .before .before .before .before .before .before .before .before .before .args .s .now) (c .before .before .before .before .before .before .before .before .before .before .space .result) (c .before .before .before .before .before .before .before .before .before .before .space .ensures) (c .before .before .before .before .before .before .before .before .before .if1 .left)) _ _ (sym (c .before .before .before .before .before .is .ensures) ∙ c .before .before .before .before .if2 .taken) (c .before .before .read-ra .ensures)
+returns-2 c = kind-ra (c .before .before .before .before .before .before .before .before .before .before .before .before .before .args .rest .now) (c .before .before .before .before .before .before .before .before .before .before .before .before .before .args .message .now) _ _ (cut-at (c .before .before .before .before .before .before .before .before .before .before .before .before .before .args .rest .now) (c .before .before .before .before .before .before .before .before .before .before .space .result) (c .before .before .before .before .before .before .before .before .before .before .space .ensures) (c .before .before .before .before .before .before .before .before .before .if1 .left)) _ _ (sym (c .before .before .before .before .before .is .ensures) ∙ c .before .before .before .before .if2 .taken) (c .before .before .read-ra .ensures)
 
 slice-aggregate-is-2 : tie.Need-slice-aggregate-is-2
 slice-aggregate-is-2 c = search needs
@@ -54,7 +54,7 @@ read-start-requires : tie.Need-read-start-requires
 read-start-requires c κs = search needs
 
 returns-3 : tie.Need-returns-3
-returns-3 c = kind-start (c .before .before .before .before .before .before .before .before .before .before .before .before .before .args .s .now) (c .before .before .before .before .before .before .before .before .before .before .before .before .before .args .message .now) _ _ (cut-at (c .before .before .before .before .before .before .before .before .before .before .before .before .before .args .s .now) (c .before .before .before .before .before .before .before .before .before .before .space .result) (c .before .before .before .before .before .before .before .before .before .before .space .ensures) (c .before .before .before .before .before .before .before .before .before .if1 .left)) (sym (c .before .before .before .before .before .is .ensures) ∙ c .before .before .before .before .if2 .left) _ (sym (c .before .before .is2 .ensures) ∙ c .before .if3 .taken) (c .read-start .ensures)
+returns-3 c = kind-start (c .before .before .before .before .before .before .before .before .before .before .before .before .before .args .rest .now) (c .before .before .before .before .before .before .before .before .before .before .before .before .before .args .message .now) _ _ (cut-at (c .before .before .before .before .before .before .before .before .before .before .before .before .before .args .rest .now) (c .before .before .before .before .before .before .before .before .before .before .space .result) (c .before .before .before .before .before .before .before .before .before .before .space .ensures) (c .before .before .before .before .before .before .before .before .before .if1 .left)) (sym (c .before .before .before .before .before .is .ensures) ∙ c .before .before .before .before .if2 .left) _ (sym (c .before .before .is2 .ensures) ∙ c .before .if3 .taken) (c .read-start .ensures)
 
 slice-aggregate-is-3 : tie.Need-slice-aggregate-is-3
 slice-aggregate-is-3 c = search needs
@@ -66,7 +66,7 @@ read-fill-requires : tie.Need-read-fill-requires
 read-fill-requires c κs = search needs
 
 returns-4 : tie.Need-returns-4
-returns-4 c = kind-fill (c .before .before .before .before .before .before .before .before .before .before .before .before .before .before .before .before .args .s .now) (c .before .before .before .before .before .before .before .before .before .before .before .before .before .before .before .before .args .message .now) _ _ (cut-at (c .before .before .before .before .before .before .before .before .before .before .before .before .before .before .before .before .args .s .now) (c .before .before .before .before .before .before .before .before .before .before .before .before .before .space .result) (c .before .before .before .before .before .before .before .before .before .before .before .before .before .space .ensures) (c .before .before .before .before .before .before .before .before .before .before .before .before .if1 .left)) (sym (c .before .before .before .before .before .before .before .before .is .ensures) ∙ c .before .before .before .before .before .before .before .if2 .left) _ (sym (c .before .before .is3 .ensures) ∙ c .before .if4 .taken) (c .read-fill .ensures)
+returns-4 c = kind-fill (c .before .before .before .before .before .before .before .before .before .before .before .before .before .before .before .before .args .rest .now) (c .before .before .before .before .before .before .before .before .before .before .before .before .before .before .before .before .args .message .now) _ _ (cut-at (c .before .before .before .before .before .before .before .before .before .before .before .before .before .before .before .before .args .rest .now) (c .before .before .before .before .before .before .before .before .before .before .before .before .before .space .result) (c .before .before .before .before .before .before .before .before .before .before .before .before .before .space .ensures) (c .before .before .before .before .before .before .before .before .before .before .before .before .if1 .left)) (sym (c .before .before .before .before .before .before .before .before .is .ensures) ∙ c .before .before .before .before .before .before .before .if2 .left) _ (sym (c .before .before .is3 .ensures) ∙ c .before .if4 .taken) (c .read-fill .ensures)
 
 slice-aggregate-is-4 : tie.Need-slice-aggregate-is-4
 slice-aggregate-is-4 c = search needs
@@ -78,10 +78,10 @@ read-remove-requires : tie.Need-read-remove-requires
 read-remove-requires c κs = search needs
 
 returns-5 : tie.Need-returns-5
-returns-5 c = kind-remove (c .before .before .before .before .before .before .before .before .before .before .before .before .before .before .before .before .before .before .before .args .s .now) (c .before .before .before .before .before .before .before .before .before .before .before .before .before .before .before .before .before .before .before .args .message .now) _ _ (cut-at (c .before .before .before .before .before .before .before .before .before .before .before .before .before .before .before .before .before .before .before .args .s .now) (c .before .before .before .before .before .before .before .before .before .before .before .before .before .before .before .before .space .result) (c .before .before .before .before .before .before .before .before .before .before .before .before .before .before .before .before .space .ensures) (c .before .before .before .before .before .before .before .before .before .before .before .before .before .before .before .if1 .left)) (sym (c .before .before .before .before .before .before .before .before .before .before .before .is .ensures) ∙ c .before .before .before .before .before .before .before .before .before .before .if2 .left) _ (sym (c .before .before .is4 .ensures) ∙ c .before .if5 .taken) (c .read-remove .ensures)
+returns-5 c = kind-remove (c .before .before .before .before .before .before .before .before .before .before .before .before .before .before .before .before .before .before .before .args .rest .now) (c .before .before .before .before .before .before .before .before .before .before .before .before .before .before .before .before .before .before .before .args .message .now) _ _ (cut-at (c .before .before .before .before .before .before .before .before .before .before .before .before .before .before .before .before .before .before .before .args .rest .now) (c .before .before .before .before .before .before .before .before .before .before .before .before .before .before .before .before .space .result) (c .before .before .before .before .before .before .before .before .before .before .before .before .before .before .before .before .space .ensures) (c .before .before .before .before .before .before .before .before .before .before .before .before .before .before .before .if1 .left)) (sym (c .before .before .before .before .before .before .before .before .before .before .before .is .ensures) ∙ c .before .before .before .before .before .before .before .before .before .before .if2 .left) _ (sym (c .before .before .is4 .ensures) ∙ c .before .if5 .taken) (c .read-remove .ensures)
 
 returns-6 : tie.Need-returns-6
-returns-6 c = kind-none (c .before .before .before .before .before .before .before .before .before .before .before .before .before .before .before .before .before .before .args .s .now) (c .before .before .before .before .before .before .before .before .before .before .before .before .before .before .before .before .before .before .args .message .now) _ _ (cut-at (c .before .before .before .before .before .before .before .before .before .before .before .before .before .before .before .before .before .before .args .s .now) (c .before .before .before .before .before .before .before .before .before .before .before .before .before .before .before .space .result) (c .before .before .before .before .before .before .before .before .before .before .before .before .before .before .before .space .ensures) (c .before .before .before .before .before .before .before .before .before .before .before .before .before .before .if1 .left)) (sym (c .before .before .before .before .before .before .before .before .before .before .is .ensures) ∙ c .before .before .before .before .before .before .before .before .before .if2 .left) (sym (c .before .before .before .before .before .before .before .is2 .ensures) ∙ c .before .before .before .before .before .before .if3 .left) (sym (c .before .before .before .before .is3 .ensures) ∙ c .before .before .before .if4 .left) (sym (c .before .is4 .ensures) ∙ c .if5 .left)
+returns-6 c = kind-none (c .before .before .before .before .before .before .before .before .before .before .before .before .before .before .before .before .before .before .args .rest .now) (c .before .before .before .before .before .before .before .before .before .before .before .before .before .before .before .before .before .before .args .message .now) _ _ (cut-at (c .before .before .before .before .before .before .before .before .before .before .before .before .before .before .before .before .before .before .args .rest .now) (c .before .before .before .before .before .before .before .before .before .before .before .before .before .before .before .space .result) (c .before .before .before .before .before .before .before .before .before .before .before .before .before .before .before .space .ensures) (c .before .before .before .before .before .before .before .before .before .before .before .before .before .before .if1 .left)) (sym (c .before .before .before .before .before .before .before .before .before .before .is .ensures) ∙ c .before .before .before .before .before .before .before .before .before .if2 .left) (sym (c .before .before .before .before .before .before .before .is2 .ensures) ∙ c .before .before .before .before .before .before .if3 .left) (sym (c .before .before .before .before .is3 .ensures) ∙ c .before .before .before .if4 .left) (sym (c .before .is4 .ensures) ∙ c .if5 .left)
 
 pub read-event-spec : {M : Type 1} → statement M
 read-event-spec =
@@ -90,11 +90,11 @@ read-event-spec =
     space-requires
     read-word-requires
     returns
-    slice-aggregate-w
-    add-t
-    sub-t
-    part-t-start
-    part-t-end
+    slice-aggregate-word
+    add-fields
+    sub-fields
+    part-fields-start
+    part-fields-end
     slice-aggregate-is
     is-requires
     read-ra-requires

@@ -1,5 +1,5 @@
 use borrow.Author.Needs.{needs}
-use mathlib.Core.Path.{sym, ap, _∙_}
+use mathlib.Core.Path.{refl, sym, ap, _∙_}
 use Rattle.lines.proofs.LineLaws.{last-address}
 use Rattle.lines.specs.EventLines.{startWith}
 use Rattle.lines.proofs.event.read_start.Statement.{statement}
@@ -8,18 +8,18 @@ use Rattle.lines.proofs.event.read_start.Tie as tie
 read-address-requires : tie.Need-read-address-requires
 read-address-requires c κs = search needs
 
-enum-known-a : tie.Need-enum-known-a
-enum-known-a c = search needs
+enum-known-addr : tie.Need-enum-known-addr
+enum-known-addr c = search needs
 
 enum-told : tie.Need-enum-told
 enum-told c = search needs
 
 returns : tie.Need-returns
-returns c = (sym (ap startWith (last-address (c .before .before .before .before .before .args .s .now) ∙ sym (c .before .before .before .read-address .ensures) ∙ c .before .a .given .1)), tt)
+returns c = (sym (ap startWith (last-address (c .before .before .before .before .before .args .rest .now) ∙ sym (c .before .before .before .read-address .ensures) ∙ c .before .addr .given .1)), refl)
 
 returns-2 : tie.Need-returns-2
-returns-2 c = (sym (ap startWith (last-address (c .before .before .before .before .args .s .now) ∙ sym (c .before .before .read-address .ensures) ∙ c .enum-told .given .1)), tt)
+returns-2 c = (sym (ap startWith (last-address (c .before .before .before .before .args .rest .now) ∙ sym (c .before .before .read-address .ensures) ∙ c .enum-told .given .1)), tt)
 
 pub read-start-spec : {M : Type 1} → statement M
 read-start-spec =
-    tie.close (tie.spec read-address-requires enum-known-a enum-told returns returns-2)
+    tie.close (tie.spec read-address-requires enum-known-addr enum-told returns returns-2)

@@ -9,7 +9,7 @@ space-requires : tie.Need-space-requires
 space-requires c κs = search needs
 
 returns : tie.Need-returns
-returns c = count-one (c .before .before .before .before .args .line .now) (c .before .before .before .before .args .w .now) (one-field (c .before .before .before .before .args .line .now) (c .before .space .result) (c .before .space .ensures) (c .if1 .taken))
+returns c = count-one (c .before .before .before .before .args .line .now) (c .before .before .before .before .args .word .now) (one-field (c .before .before .before .before .args .line .now) (c .before .space .result) (c .before .space .ensures) (c .if1 .taken))
 
 slice-aggregate-is : tie.Need-slice-aggregate-is
 slice-aggregate-is c = search needs
@@ -33,10 +33,10 @@ read-number-requires : tie.Need-read-number-requires
 read-number-requires c κs = search needs
 
 returns-2 : tie.Need-returns-2
-returns-2 c = count-is (c .before .before .before .before .before .before .before .before .before .args .line .now) (c .before .before .before .before .before .before .before .before .before .args .w .now) _ _ _ (cut-at (c .before .before .before .before .before .before .before .before .before .args .line .now) (c .before .before .before .before .before .before .space .result) (c .before .before .before .before .before .before .space .ensures) (c .before .before .before .before .before .if1 .left)) (sym (c .before .before .before .is .ensures) ∙ c .before .before .if2 .taken) (c .read-number .ensures)
+returns-2 c = count-is (c .before .before .before .before .before .before .before .before .before .args .line .now) (c .before .before .before .before .before .before .before .before .before .args .word .now) _ _ _ (cut-at (c .before .before .before .before .before .before .before .before .before .args .line .now) (c .before .before .before .before .before .before .space .result) (c .before .before .before .before .before .before .space .ensures) (c .before .before .before .before .before .if1 .left)) (sym (c .before .before .before .is .ensures) ∙ c .before .before .if2 .taken) (c .read-number .ensures)
 
 returns-3 : tie.Need-returns-3
-returns-3 c = count-not (c .before .before .before .before .before .before .before .args .line .now) (c .before .before .before .before .before .before .before .args .w .now) _ _ (cut-at (c .before .before .before .before .before .before .before .args .line .now) (c .before .before .before .before .space .result) (c .before .before .before .before .space .ensures) (c .before .before .before .if1 .left)) (sym (c .before .is .ensures) ∙ c .if2 .left)
+returns-3 c = count-not (c .before .before .before .before .before .before .before .args .line .now) (c .before .before .before .before .before .before .before .args .word .now) _ _ (cut-at (c .before .before .before .before .before .before .before .args .line .now) (c .before .before .before .before .space .result) (c .before .before .before .before .space .ensures) (c .before .before .before .if1 .left)) (sym (c .before .is .ensures) ∙ c .if2 .left)
 
 pub counted-spec : {M : Type 1} → statement M
 counted-spec =

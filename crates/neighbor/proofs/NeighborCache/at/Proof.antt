@@ -10,11 +10,11 @@ use Rattle.neighbor.proofs.NeighborCache.at.Tie as tie
 count-of-requires : tie.Need-count-of-requires
 count-of-requires c κs = search needs
 
-mul-e : tie.Need-mul-e
-mul-e c = search needs
+mul-entry : tie.Need-mul-entry
+mul-entry c = search needs
 
-element-copy-out-e : tie.Need-element-copy-out-e
-element-copy-out-e c = search needs
+element-copy-out-entry : tie.Need-element-copy-out-entry
+element-copy-out-entry c = search needs
 
 listed-requires : tie.Need-listed-requires
 listed-requires c κs = search needs
@@ -30,4 +30,4 @@ returns-2 c = let full : length (c .before .before .args .t1 .slots) ≡ 16 = se
 pub at-spec : {M : Type 1} → statement M
 at-spec =
     tie.close
-    (tie.spec count-of-requires mul-e element-copy-out-e listed-requires returns returns-2)
+    (tie.spec count-of-requires mul-entry element-copy-out-entry listed-requires returns returns-2)

@@ -4,18 +4,19 @@ use borrow.Author.Tests.{eq-eqb, ne-eqb}
 use lib.ListN.{length}
 use mathlib.Core.Path.{_≡_, sym, _∙_}
 use native.Mathlib.Omega.{arith}
-use Rattle.neighbor.proofs.Calls.{change-refused, changed}
-use Rattle.neighbor.specs.CacheCalls.{blank, entries, ifaceCheck}
+use Rattle.neighbor.proofs.Calls.{change-refused, change-done, changed-to}
+use Rattle.neighbor.specs.CacheCalls.{blank, entries, clearIn}
+use Rattle.wire.specs.Refusals.{ifaceCheck}
 use Rattle.neighbor.specs.NeighborRules.{onIface, clearIface}
 use Rattle.table.proofs.Laws.{mapped, Compacting, compacting, one-gone, one-kept, compacted}
 use Rattle.neighbor.proofs.NeighborCache.clear_iface.Statement.{statement}
 use Rattle.neighbor.proofs.NeighborCache.clear_iface.Tie as tie
 
 abbrev Inv-loop : tie.InvT-loop
-Inv-loop iface cache₀ n w₀ i₀ cache w i = Compacting 16 (onIface iface) (cache₀ .slots) (cache₀ .len) n (cache .slots) w i
+Inv-loop iface cache₀ count kept₀ i₀ cache kept i = Compacting 16 (onIface iface) (cache₀ .slots) (cache₀ .len) count (cache .slots) kept i
 
 abbrev μ-loop : tie.MeasureT-loop
-μ-loop iface cache₀ n w₀ i₀ cache w i = n - i
+μ-loop iface cache₀ count kept₀ i₀ cache kept i = count - i
 
 check-iface-requires : tie.Need-check-iface-requires Inv-loop μ-loop
 check-iface-requires c κs = search needs
@@ -24,7 +25,7 @@ enum-known-check : tie.Need-enum-known-check Inv-loop μ-loop
 enum-known-check c = search needs
 
 returns : tie.Need-returns Inv-loop μ-loop
-returns c = change-refused (ifaceCheck (c .before .before .before .before .args .iface)) (c .before .before .before .before .args .self) (clearIface (c .before .before .before .before .args .iface) (entries (c .before .before .before .before .args .self))) _ (sym (c .before .before .before .check-iface .ensures) ∙ c .before .check .given .1)
+returns c = change-refused (ifaceCheck (c .before .before .before .before .args .iface)) (c .before .before .before .before .args .self) (clearIn (c .before .before .before .before .args .self) (c .before .before .before .before .args .iface)) _ (sym (c .before .before .before .check-iface .ensures .is) ∙ c .before .check .given .1)
 
 enum-told : tie.Need-enum-told Inv-loop μ-loop
 enum-told c = search needs
@@ -45,20 +46,20 @@ mul-if1 c = omega arith
 element-copy-out-if1 : tie.Need-element-copy-out-if1 Inv-loop μ-loop
 element-copy-out-if1 c = omega arith
 
-mul-e : tie.Need-mul-e Inv-loop μ-loop
-mul-e c = omega arith
+mul-entry : tie.Need-mul-entry Inv-loop μ-loop
+mul-entry c = omega arith
 
-element-copy-out-e : tie.Need-element-copy-out-e Inv-loop μ-loop
-element-copy-out-e c = omega arith
+element-copy-out-entry : tie.Need-element-copy-out-entry Inv-loop μ-loop
+element-copy-out-entry c = omega arith
 
-mul-e-2 : tie.Need-mul-e-2 Inv-loop μ-loop
-mul-e-2 c = omega arith
+mul-entry-2 : tie.Need-mul-entry-2 Inv-loop μ-loop
+mul-entry-2 c = omega arith
 
-element-set-from-e : tie.Need-element-set-from-e Inv-loop μ-loop
-element-set-from-e c = omega arith
+element-set-from-entry : tie.Need-element-set-from-entry Inv-loop μ-loop
+element-set-from-entry c = omega arith
 
-add-w : tie.Need-add-w Inv-loop μ-loop
-add-w c = omega arith
+add-kept : tie.Need-add-kept Inv-loop μ-loop
+add-kept c = omega arith
 
 loop-less : tie.Need-loop-less Inv-loop μ-loop
 loop-less c = omega arith
@@ -75,7 +76,7 @@ unfolding onIface
 loop-again-2 c = one-gone blank (c .before .before .loop .inv) (omega arith) (eq-eqb _ _ (c .if1 .left))
 
 returns-2 : tie.Need-returns-2 Inv-loop μ-loop
-returns-2 c = changed (ifaceCheck (c .before .before .before .before .before .before .args .iface)) (c .before .before .before .before .before .before .args .self) (clearIface (c .before .before .before .before .before .before .args .iface) (entries (c .before .before .before .before .before .before .args .self))) _ _ (sym (c .before .before .before .before .before .check-iface .ensures) ∙ c .before .before .before .enum-told .given .1) (compacted blank (c .before .loop .inv) (omega arith))
+returns-2 c = change-done (ifaceCheck (c .before .before .before .before .before .before .args .iface)) (c .before .before .before .before .before .before .args .self) (clearIn (c .before .before .before .before .before .before .args .self) (c .before .before .before .before .before .before .args .iface)) (sym (c .before .before .before .before .before .check-iface .ensures .is) ∙ c .before .before .before .enum-told .given .1) (changed-to (c .before .before .before .before .before .before .args .self) (clearIface (c .before .before .before .before .before .before .args .iface) (entries (c .before .before .before .before .before .before .args .self))) (compacted blank (c .before .loop .inv) (omega arith)))
 
 pub clear-iface-spec : {M : Type 1} → statement M
 clear-iface-spec =
@@ -92,11 +93,11 @@ clear-iface-spec =
     add-i
     mul-if1
     element-copy-out-if1
-    mul-e
-    element-copy-out-e
-    mul-e-2
-    element-set-from-e
-    add-w
+    mul-entry
+    element-copy-out-entry
+    mul-entry-2
+    element-set-from-entry
+    add-kept
     loop-less
     loop-again
     loop-less-2

@@ -12,10 +12,10 @@ use Rattle.neighbor.proofs.NeighborCache.lookup.Statement.{statement}
 use Rattle.neighbor.proofs.NeighborCache.lookup.Tie as tie
 
 abbrev Inv-loop : tie.InvT-loop
-Inv-loop iface addr self n i₀ i = Scanning 16 (isKey (key iface addr)) answerIn NotFound (self .slots) (self .len) n i
+Inv-loop iface addr self count i₀ i = Scanning 16 (isKey (key iface addr)) answerIn NotFound (self .slots) (self .len) count i
 
 abbrev μ-loop : tie.MeasureT-loop
-μ-loop iface addr self n i₀ i = n - i
+μ-loop iface addr self count i₀ i = count - i
 
 check-key-requires : tie.Need-check-key-requires Inv-loop μ-loop
 check-key-requires c κs = search needs
@@ -24,7 +24,7 @@ enum-known-check : tie.Need-enum-known-check Inv-loop μ-loop
 enum-known-check c = search needs
 
 returns : tie.Need-returns Inv-loop μ-loop
-returns c = lookup-refused (c .before .before .before .before .args .t1) (c .before .before .before .before .args .iface) (c .before .before .before .before .args .addr) _ (sym (c .before .before .before .check-key .ensures) ∙ c .before .check .given .1)
+returns c = lookup-refused (c .before .before .before .before .args .t1) (c .before .before .before .before .args .iface) (c .before .before .before .before .args .addr) _ (sym (c .before .before .before .check-key .ensures .is) ∙ c .before .check .given .1)
 
 enum-told : tie.Need-enum-told Inv-loop μ-loop
 enum-told c = search needs
@@ -36,11 +36,11 @@ loop-holds : tie.Need-loop-holds Inv-loop μ-loop
 loop-holds c = let full : length (c .before .before .before .before .args .t1 .slots) ≡ 16 = search (needs, mapped) in
     scanning 16 (isKey (key (c .before .before .before .before .args .iface) (c .before .before .before .before .args .addr))) answerIn NotFound (c .before .before .before .before .args .t1 .slots) (c .before .before .before .before .args .t1 .len) _ full (c .count-of .ensures)
 
-mul-e : tie.Need-mul-e Inv-loop μ-loop
-mul-e c = omega arith
+mul-entry : tie.Need-mul-entry Inv-loop μ-loop
+mul-entry c = omega arith
 
-element-copy-out-e : tie.Need-element-copy-out-e Inv-loop μ-loop
-element-copy-out-e c = omega arith
+element-copy-out-entry : tie.Need-element-copy-out-entry Inv-loop μ-loop
+element-copy-out-entry c = omega arith
 
 has-key-requires : tie.Need-has-key-requires Inv-loop μ-loop
 has-key-requires c κs = search needs
@@ -49,7 +49,7 @@ answer-requires : tie.Need-answer-requires Inv-loop μ-loop
 answer-requires c κs = search needs
 
 returns-2 : tie.Need-returns-2 Inv-loop μ-loop
-returns-2 c = looked (c .before .before .before .before .before .before .before .before .before .before .args .t1) (c .before .before .before .before .before .before .before .before .before .before .args .iface) (c .before .before .before .before .before .before .before .before .before .before .args .addr) _ (sym (c .before .before .before .before .before .before .before .before .before .check-key .ensures) ∙ c .before .before .before .before .before .before .before .enum-told .given .1) (c .answer .ensures ∙ scan-found blank (c .before .before .before .before .before .loop .inv) (omega arith) (sym (c .before .before .has-key .ensures) ∙ c .before .if1 .taken))
+returns-2 c = looked (c .before .before .before .before .before .before .before .before .before .before .args .t1) (c .before .before .before .before .before .before .before .before .before .before .args .iface) (c .before .before .before .before .before .before .before .before .before .before .args .addr) _ (sym (c .before .before .before .before .before .before .before .before .before .check-key .ensures .is) ∙ c .before .before .before .before .before .before .before .enum-told .given .1) (c .answer .ensures ∙ scan-found blank (c .before .before .before .before .before .loop .inv) (omega arith) (sym (c .before .before .has-key .ensures) ∙ c .before .if1 .taken))
 
 add-i : tie.Need-add-i Inv-loop μ-loop
 add-i c = omega arith
@@ -61,7 +61,7 @@ loop-again : tie.Need-loop-again Inv-loop μ-loop
 loop-again c = scan-next blank (c .before .before .before .before .loop .inv) (omega arith) (sym (c .before .has-key .ensures) ∙ c .if1 .left)
 
 returns-3 : tie.Need-returns-3 Inv-loop μ-loop
-returns-3 c = looked (c .before .before .before .before .before .before .args .t1) (c .before .before .before .before .before .before .args .iface) (c .before .before .before .before .before .before .args .addr) NotFound (sym (c .before .before .before .before .before .check-key .ensures) ∙ c .before .before .before .enum-told .given .1) (scan-none blank (c .before .loop .inv) (omega arith))
+returns-3 c = looked (c .before .before .before .before .before .before .args .t1) (c .before .before .before .before .before .before .args .iface) (c .before .before .before .before .before .before .args .addr) NotFound (sym (c .before .before .before .before .before .check-key .ensures .is) ∙ c .before .before .before .enum-told .given .1) (scan-none blank (c .before .loop .inv) (omega arith))
 
 pub lookup-spec : {M : Type 1} → statement M
 lookup-spec =
@@ -75,8 +75,8 @@ lookup-spec =
     enum-told
     count-of-requires
     loop-holds
-    mul-e
-    element-copy-out-e
+    mul-entry
+    element-copy-out-entry
     has-key-requires
     answer-requires
     returns-2

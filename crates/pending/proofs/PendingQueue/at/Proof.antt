@@ -10,11 +10,11 @@ use Rattle.pending.proofs.PendingQueue.at.Tie as tie
 count-of-requires : tie.Need-count-of-requires
 count-of-requires c κs = search needs
 
-mul-p : tie.Need-mul-p
-mul-p c = search needs
+mul-packet : tie.Need-mul-packet
+mul-packet c = search needs
 
-element-copy-out-p : tie.Need-element-copy-out-p
-element-copy-out-p c = search needs
+element-copy-out-packet : tie.Need-element-copy-out-packet
+element-copy-out-packet c = search needs
 
 returns : tie.Need-returns
 returns c = let full : length (c .before .before .before .args .t1 .slots) ≡ 8 = search (needs, mapped) in
@@ -25,4 +25,4 @@ returns-2 c = let full : length (c .before .before .args .t1 .slots) ≡ 8 = sea
     at-none (c .before .before .args .t1) (c .before .count-of .result) (c .before .before .args .index) full (c .before .count-of .ensures) (omega arith)
 
 pub at-spec : {M : Type 1} → statement M
-at-spec = tie.close (tie.spec count-of-requires mul-p element-copy-out-p returns returns-2)
+at-spec = tie.close (tie.spec count-of-requires mul-packet element-copy-out-packet returns returns-2)

@@ -11,10 +11,10 @@ use Rattle.pending.proofs.PendingQueue.purge_iface.Statement.{statement
 use Rattle.pending.proofs.PendingQueue.purge_iface.Tie as tie
 
 abbrev Inv-loop : tie.InvT-loop
-Inv-loop iface queue₀ handles₀ n m₀ w₀ i₀ queue handles m w i = Purging (onIface iface) (queue₀ .slots) (queue₀ .len) n (queue .slots) w i handles m
+Inv-loop iface queue₀ handles₀ count dropped₀ kept₀ i₀ queue handles dropped kept i = Purging (onIface iface) (queue₀ .slots) (queue₀ .len) count (queue .slots) kept i handles dropped
 
 abbrev μ-loop : tie.MeasureT-loop
-μ-loop iface queue₀ handles₀ n m₀ w₀ i₀ queue handles m w i = n - i
+μ-loop iface queue₀ handles₀ count dropped₀ kept₀ i₀ queue handles dropped kept i = count - i
 
 check-iface-requires : tie.Need-check-iface-requires Inv-loop μ-loop
 check-iface-requires c κs = search needs
@@ -23,7 +23,7 @@ enum-known-check : tie.Need-enum-known-check Inv-loop μ-loop
 enum-known-check c = search needs
 
 returns : tie.Need-returns Inv-loop μ-loop
-returns c = purge-refused (c .before .before .before .before .args .self) (c .before .before .before .before .args .iface) _ (sym (c .before .before .before .check-iface .ensures) ∙ c .before .check .given .1)
+returns c = purge-refused (c .before .before .before .before .args .self) (c .before .before .before .before .args .iface) _ (sym (c .before .before .before .check-iface .ensures .is) ∙ c .before .check .given .1)
 
 enum-told : tie.Need-enum-told Inv-loop μ-loop
 enum-told c = search needs
@@ -35,11 +35,11 @@ loop-holds : tie.Need-loop-holds Inv-loop μ-loop
 loop-holds c = let full : length (c .before .before .before .before .args .self .slots) ≡ 8 = search (needs, mapped) in
     purging (onIface (c .before .before .before .before .args .iface)) (c .before .before .before .before .args .self .slots) (c .before .before .before .before .args .self .len) _ full (c .count-of .ensures)
 
-mul-p : tie.Need-mul-p Inv-loop μ-loop
-mul-p c = omega arith
+mul-packet : tie.Need-mul-packet Inv-loop μ-loop
+mul-packet c = omega arith
 
-element-copy-out-p : tie.Need-element-copy-out-p Inv-loop μ-loop
-element-copy-out-p c = omega arith
+element-copy-out-packet : tie.Need-element-copy-out-packet Inv-loop μ-loop
+element-copy-out-packet c = omega arith
 
 add-i : tie.Need-add-i Inv-loop μ-loop
 add-i c = omega arith
@@ -50,8 +50,8 @@ mul-handles c = omega arith
 array-write-handles : tie.Need-array-write-handles Inv-loop μ-loop
 array-write-handles c = omega arith
 
-add-m : tie.Need-add-m Inv-loop μ-loop
-add-m c = omega arith
+add-dropped : tie.Need-add-dropped Inv-loop μ-loop
+add-dropped c = omega arith
 
 loop-less : tie.Need-loop-less Inv-loop μ-loop
 loop-less c = omega arith
@@ -60,14 +60,14 @@ loop-again : tie.Need-loop-again Inv-loop μ-loop
 unfolding onIface
 loop-again c = one-goes (c .before .before .before .before .loop .inv) (omega arith) (eq-eqb _ _ (c .if1 .taken))
 
-mul-p-2 : tie.Need-mul-p-2 Inv-loop μ-loop
-mul-p-2 c = omega arith
+mul-packet-2 : tie.Need-mul-packet-2 Inv-loop μ-loop
+mul-packet-2 c = omega arith
 
-element-set-from-p : tie.Need-element-set-from-p Inv-loop μ-loop
-element-set-from-p c = omega arith
+element-set-from-packet : tie.Need-element-set-from-packet Inv-loop μ-loop
+element-set-from-packet c = omega arith
 
-add-w : tie.Need-add-w Inv-loop μ-loop
-add-w c = omega arith
+add-kept : tie.Need-add-kept Inv-loop μ-loop
+add-kept c = omega arith
 
 loop-less-2 : tie.Need-loop-less-2 Inv-loop μ-loop
 loop-less-2 c = omega arith
@@ -77,7 +77,7 @@ unfolding onIface
 loop-again-2 c = one-stays (c .before .before .before .before .loop .inv) (omega arith) (ne-eqb _ _ (c .if1 .left))
 
 returns-2 : tie.Need-returns-2 Inv-loop μ-loop
-returns-2 c = purged-iface (c .before .before .before .before .before .before .args .self) (c .before .before .before .before .before .before .args .iface) (sym (c .before .before .before .before .before .check-iface .ensures) ∙ c .before .before .before .enum-told .given .1) (c .before .loop .inv) (omega arith)
+returns-2 c = purged-iface (c .before .before .before .before .before .before .args .self) (c .before .before .before .before .before .before .args .iface) (sym (c .before .before .before .before .before .check-iface .ensures .is) ∙ c .before .before .before .enum-told .given .1) (c .before .loop .inv) (omega arith)
 
 pub purge-iface-spec : {M : Type 1} → statement M
 purge-iface-spec =
@@ -91,17 +91,17 @@ purge-iface-spec =
     enum-told
     count-of-requires
     loop-holds
-    mul-p
-    element-copy-out-p
+    mul-packet
+    element-copy-out-packet
     add-i
     mul-handles
     array-write-handles
-    add-m
+    add-dropped
     loop-less
     loop-again
-    mul-p-2
-    element-set-from-p
-    add-w
+    mul-packet-2
+    element-set-from-packet
+    add-kept
     loop-less-2
     loop-again-2
     returns-2)

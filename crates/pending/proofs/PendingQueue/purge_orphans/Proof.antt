@@ -7,7 +7,7 @@ use mathlib.Core.Path.{_≡_, refl, sym, _∙_}
 use native.Mathlib.Omega.{arith}
 use Rattle.neighbor.specs.CacheCalls.{entries, blank as blankEntry}
 use Rattle.neighbor.specs.NeighborRules.{isKey}
-use Rattle.pending.proofs.Calls.{Purging, purging, one-goes, one-stays, purged, stays-awaited, goes-orphaned}
+use Rattle.pending.proofs.Calls.{Purging, purging, one-goes, one-stays, purged-orphans, stays-awaited, goes-orphaned}
 use Rattle.pending.specs.QueueCalls.{blank}
 use Rattle.pending.specs.QueueRules.{keyOf, awaitsIn, orphaned}
 use Rattle.table.proofs.Laws.{mapped, Scanning, scanning, scan-next, scan-found, scan-none}
@@ -16,16 +16,16 @@ use Rattle.pending.proofs.PendingQueue.purge_orphans.Statement.{stateme
 use Rattle.pending.proofs.PendingQueue.purge_orphans.Tie as tie
 
 abbrev Inv-loop2 : tie.InvT-loop2
-Inv-loop2 cache queue handles n k m w i p a awaited₀ j₀ awaited j = (awaited ≡ false) × Scanning 16 (isKey (keyOf p)) awaitsIn false (cache .slots) (cache .len) k j
+Inv-loop2 cache queue handles count neighbors dropped kept i packet addr awaited₀ j₀ awaited j = (awaited ≡ false) × Scanning 16 (isKey (keyOf packet)) awaitsIn false (cache .slots) (cache .len) neighbors j
 
 abbrev μ-loop2 : tie.MeasureT-loop2
-μ-loop2 cache queue handles n k m w i p a awaited₀ j₀ awaited j = k - j
+μ-loop2 cache queue handles count neighbors dropped kept i packet addr awaited₀ j₀ awaited j = neighbors - j
 
 abbrev Inv-loop : tie.InvT-loop
-Inv-loop cache queue₀ handles₀ n k m₀ w₀ i₀ queue handles m w i = Purging (orphaned (entries cache)) (queue₀ .slots) (queue₀ .len) n (queue .slots) w i handles m
+Inv-loop cache queue₀ handles₀ count neighbors dropped₀ kept₀ i₀ queue handles dropped kept i = Purging (orphaned (entries cache)) (queue₀ .slots) (queue₀ .len) count (queue .slots) kept i handles dropped
 
 abbrev μ-loop : tie.MeasureT-loop
-μ-loop cache queue₀ handles₀ n k m₀ w₀ i₀ queue handles m w i = n - i
+μ-loop cache queue₀ handles₀ count neighbors dropped₀ kept₀ i₀ queue handles dropped kept i = count - i
 
 count-of-requires : tie.Need-count-of-requires Inv-loop2 μ-loop2 Inv-loop μ-loop
 count-of-requires c κs = search needs
@@ -37,21 +37,21 @@ loop-holds : tie.Need-loop-holds Inv-loop2 μ-loop2 Inv-loop μ-loop
 loop-holds c = let full : length (c .before .before .args .self .slots) ≡ 8 = search (needs, mapped) in
     purging (orphaned (entries (c .before .before .args .t2))) (c .before .before .args .self .slots) (c .before .before .args .self .len) _ full (c .before .count-of .ensures)
 
-mul-p : tie.Need-mul-p Inv-loop2 μ-loop2 Inv-loop μ-loop
-mul-p c = omega arith
+mul-packet : tie.Need-mul-packet Inv-loop2 μ-loop2 Inv-loop μ-loop
+mul-packet c = omega arith
 
-element-copy-out-p : tie.Need-element-copy-out-p Inv-loop2 μ-loop2 Inv-loop μ-loop
-element-copy-out-p c = omega arith
+element-copy-out-packet : tie.Need-element-copy-out-packet Inv-loop2 μ-loop2 Inv-loop μ-loop
+element-copy-out-packet c = omega arith
 
 loop2-holds : tie.Need-loop2-holds Inv-loop2 μ-loop2 Inv-loop μ-loop
 loop2-holds c = let full : length (c .before .before .before .before .before .before .args .t2 .slots) ≡ 16 = search (needs, mapped) in
     (refl, scanning 16 (isKey (keyOf (getD (c .before .before .before .loop .queue .slots) (c .before .before .before .loop .i) blank))) awaitsIn false (c .before .before .before .before .before .before .args .t2 .slots) (c .before .before .before .before .before .before .args .t2 .len) _ full (c .before .before .before .before .count-of2 .ensures))
 
-mul-e : tie.Need-mul-e Inv-loop2 μ-loop2 Inv-loop μ-loop
-mul-e c = omega arith
+mul-entry : tie.Need-mul-entry Inv-loop2 μ-loop2 Inv-loop μ-loop
+mul-entry c = omega arith
 
-element-copy-out-e : tie.Need-element-copy-out-e Inv-loop2 μ-loop2 Inv-loop μ-loop
-element-copy-out-e c = omega arith
+element-copy-out-entry : tie.Need-element-copy-out-entry Inv-loop2 μ-loop2 Inv-loop μ-loop
+element-copy-out-entry c = omega arith
 
 has-key-requires : tie.Need-has-key-requires Inv-loop2 μ-loop2 Inv-loop μ-loop
 has-key-requires c κs = search needs
@@ -71,14 +71,14 @@ loop2-again c = (c .before .before .before .before .loop2 .inv .0, scan-next bla
 add-i : tie.Need-add-i Inv-loop2 μ-loop2 Inv-loop μ-loop
 add-i c = omega arith
 
-mul-p-2 : tie.Need-mul-p-2 Inv-loop2 μ-loop2 Inv-loop μ-loop
-mul-p-2 c = omega arith
+mul-packet-2 : tie.Need-mul-packet-2 Inv-loop2 μ-loop2 Inv-loop μ-loop
+mul-packet-2 c = omega arith
 
-element-set-from-p : tie.Need-element-set-from-p Inv-loop2 μ-loop2 Inv-loop μ-loop
-element-set-from-p c = omega arith
+element-set-from-packet : tie.Need-element-set-from-packet Inv-loop2 μ-loop2 Inv-loop μ-loop
+element-set-from-packet c = omega arith
 
-add-w : tie.Need-add-w Inv-loop2 μ-loop2 Inv-loop μ-loop
-add-w c = omega arith
+add-kept : tie.Need-add-kept Inv-loop2 μ-loop2 Inv-loop μ-loop
+add-kept c = omega arith
 
 loop-less : tie.Need-loop-less Inv-loop2 μ-loop2 Inv-loop μ-loop
 loop-less c = omega arith
@@ -96,8 +96,8 @@ mul-handles c = omega arith
 array-write-handles : tie.Need-array-write-handles Inv-loop2 μ-loop2 Inv-loop μ-loop
 array-write-handles c = omega arith
 
-add-m : tie.Need-add-m Inv-loop2 μ-loop2 Inv-loop μ-loop
-add-m c = omega arith
+add-dropped : tie.Need-add-dropped Inv-loop2 μ-loop2 Inv-loop μ-loop
+add-dropped c = omega arith
 
 loop-less-2 : tie.Need-loop-less-2 Inv-loop2 μ-loop2 Inv-loop μ-loop
 loop-less-2 c = omega arith
@@ -110,7 +110,7 @@ loop-again-2 c = let found : (c .before .loop2-test .awaited) ≡ firstOf (isKey
     one-goes (c .before .before .before .before .before .before .loop .inv) (omega arith) (goes-orphaned (entries (c .before .before .before .before .before .before .before .before .before .args .t2)) (getD (c .before .before .before .before .before .before .loop .queue .slots) (c .before .before .before .before .before .before .loop .i) blank) (c .before .loop2-test .awaited) found (c .if2 .left))
 
 returns : tie.Need-returns Inv-loop2 μ-loop2 Inv-loop μ-loop
-returns c = purged (c .before .before .before .before .args .self) (orphaned (entries (c .before .before .before .before .args .t2))) (c .before .loop .inv) (omega arith)
+returns c = purged-orphans (c .before .before .before .before .args .self) (c .before .before .before .before .args .t2) (c .before .loop .inv) (omega arith)
 
 pub purge-orphans-spec : {M : Type 1} → statement M
 purge-orphans-spec =
@@ -123,25 +123,25 @@ purge-orphans-spec =
     count-of-requires
     count-of-requires-2
     loop-holds
-    mul-p
-    element-copy-out-p
+    mul-packet
+    element-copy-out-packet
     loop2-holds
-    mul-e
-    element-copy-out-e
+    mul-entry
+    element-copy-out-entry
     has-key-requires
     is-awaited-requires
     add-j
     loop2-less
     loop2-again
     add-i
-    mul-p-2
-    element-set-from-p
-    add-w
+    mul-packet-2
+    element-set-from-packet
+    add-kept
     loop-less
     loop-again
     mul-handles
     array-write-handles
-    add-m
+    add-dropped
     loop-less-2
     loop-again-2
     returns)

@@ -10,10 +10,10 @@ use Rattle.pending.proofs.PendingQueue.push.Statement.{statement}
 use Rattle.pending.proofs.PendingQueue.push.Tie as tie
 
 abbrev Inv-loop : tie.InvT-loop
-Inv-loop iface handle queue₀ packet n oldest hole₀ next₀ queue hole next = Moving 8 (queue₀ .slots) (queue₀ .len) 0 n (queue .slots) hole next
+Inv-loop iface handle queue₀ packet count oldest hole₀ next₀ queue hole next = Moving 8 (queue₀ .slots) (queue₀ .len) 0 count (queue .slots) hole next
 
 abbrev μ-loop : tie.MeasureT-loop
-μ-loop iface handle queue₀ packet n oldest hole₀ next₀ queue hole next = n - next
+μ-loop iface handle queue₀ packet count oldest hole₀ next₀ queue hole next = count - next
 
 check-iface-requires : tie.Need-check-iface-requires Inv-loop μ-loop
 check-iface-requires c κs = search needs
@@ -22,7 +22,7 @@ enum-known-check : tie.Need-enum-known-check Inv-loop μ-loop
 enum-known-check c = search needs
 
 returns : tie.Need-returns Inv-loop μ-loop
-returns c = push-refused (c .before .before .before .before .args .self) (c .before .before .before .before .args .iface) (c .before .before .before .before .args .addr) (c .before .before .before .before .args .handle) _ (sym (c .before .before .before .check-iface .ensures) ∙ c .before .check .given .1)
+returns c = push-refused (c .before .before .before .before .args .self) (c .before .before .before .before .args .iface) (c .before .before .before .before .args .addr) (c .before .before .before .before .args .handle) _ (sym (c .before .before .before .check-iface .ensures .is) ∙ c .before .check .given .1)
 
 enum-told : tie.Need-enum-told Inv-loop μ-loop
 enum-told c = search needs
@@ -41,7 +41,7 @@ add-queue c = omega arith
 
 returns-2 : tie.Need-returns-2 Inv-loop μ-loop
 returns-2 c = let full : length (c .before .before .before .before .before .args .self .slots) ≡ 8 = search (needs, mapped) in
-    pushed (c .before .before .before .before .before .args .self) (c .before .before .before .before .before .args .iface) (c .before .before .before .before .before .args .addr) (c .before .before .before .before .before .args .handle) _ _ _ (sym (c .before .before .before .before .check-iface .ensures) ∙ c .before .before .enum-told .given .1)
+    pushed (c .before .before .before .before .before .args .self) (c .before .before .before .before .before .args .iface) (c .before .before .before .before .before .args .addr) (c .before .before .before .before .before .args .handle) _ _ _ (sym (c .before .before .before .before .check-iface .ensures .is) ∙ c .before .before .enum-told .given .1)
     (push-room _ (c .before .before .before .before .before .args .self .slots) (c .before .before .before .before .before .args .self .len) (c .before .count-of .result) full (c .before .count-of .ensures) (omega arith))
     (push-queued blank (c .before .before .before .before .before .args .self .slots) (c .before .before .before .before .before .args .self .len) (c .before .count-of .result) full (c .before .count-of .ensures) (omega arith)) refl
 
@@ -81,7 +81,7 @@ element-set-from-packet-2 c = omega arith
 
 returns-3 : tie.Need-returns-3 Inv-loop μ-loop
 returns-3 c = let full : length (c .before .before .before .before .before .before .before .before .args .self .slots) ≡ 8 = search (needs, mapped) in
-    pushed (c .before .before .before .before .before .before .before .before .args .self) (c .before .before .before .before .before .before .before .before .args .iface) (c .before .before .before .before .before .before .before .before .args .addr) (c .before .before .before .before .before .before .before .before .args .handle) _ _ _ (sym (c .before .before .before .before .before .before .before .check-iface .ensures) ∙ c .before .before .before .before .before .enum-told .given .1)
+    pushed (c .before .before .before .before .before .before .before .before .args .self) (c .before .before .before .before .before .before .before .before .args .iface) (c .before .before .before .before .before .before .before .before .args .addr) (c .before .before .before .before .before .before .before .before .args .handle) _ _ _ (sym (c .before .before .before .before .before .before .before .check-iface .ensures .is) ∙ c .before .before .before .before .before .enum-told .given .1)
     (push-full _ (c .before .before .before .before .before .before .before .before .args .self .slots) (c .before .before .before .before .before .before .before .before .args .self .len) (c .before .before .before .before .count-of .result) full (c .before .before .before .before .count-of .ensures) _ _ _ (c .before .loop .inv) (omega arith) (omega arith))
     (push-dropped blank (c .before .before .before .before .before .before .before .before .args .self .slots) (c .before .before .before .before .before .before .before .before .args .self .len) (c .before .before .before .before .count-of .result) full (c .before .before .before .before .count-of .ensures) (omega arith)) refl
 

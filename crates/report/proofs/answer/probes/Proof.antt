@@ -13,10 +13,10 @@ use Rattle.report.proofs.answer.probes.Statement.{statement}
 use Rattle.report.proofs.answer.probes.Tie as tie
 
 abbrev Inv-loop : tie.InvT-loop
-Inv-loop out₀ at time events k next₀ i₀ out next i = Listing 16 (slotLine time) [] (events .slots) (events .len) k i out₀ next₀ next out
+Inv-loop out₀ at time events count next₀ i₀ out next i = Listing 16 (slotLine time) [] (events .slots) (events .len) count i out₀ next₀ next out
 
 abbrev μ-loop : tie.MeasureT-loop
-μ-loop out₀ at time events k next₀ i₀ out next i = k - i
+μ-loop out₀ at time events count next₀ i₀ out next i = count - i
 
 count-of-requires : tie.Need-count-of-requires Inv-loop μ-loop
 count-of-requires c κs = search needs
@@ -26,11 +26,11 @@ loop-holds c = let t = c .before .before .args .t4 in
     let full : length (t .slots) ≡ 16 = search (needs, mapped) in
     listing 16 _ [] (t .slots) (t .len) _ full (c .count-of .ensures) (put-none _ _)
 
-mul-e : tie.Need-mul-e Inv-loop μ-loop
-mul-e c = search needs
+mul-slot : tie.Need-mul-slot Inv-loop μ-loop
+mul-slot c = search needs
 
-element-copy-out-e : tie.Need-element-copy-out-e Inv-loop μ-loop
-element-copy-out-e c = search needs
+element-copy-out-slot : tie.Need-element-copy-out-slot Inv-loop μ-loop
+element-copy-out-slot c = search needs
 
 probe-requires : tie.Need-probe-requires Inv-loop μ-loop
 probe-requires c κs = search needs
@@ -59,8 +59,8 @@ probes-spec =
     μ-loop
     count-of-requires
     loop-holds
-    mul-e
-    element-copy-out-e
+    mul-slot
+    element-copy-out-slot
     probe-requires
     add-i
     loop-less

@@ -3,7 +3,7 @@ use borrow.Author.Needs.{needs}
 use lib.ListN.{length}
 use mathlib.Core.List.{[]}
 use mathlib.Core.Path.{_≡_}
-use Rattle.learned.specs.LearnedRules.{prefixesOf, noPrefix}
+use Rattle.slaac.specs.LearnedRules.{prefixesOf, noPrefix}
 use Rattle.report.proofs.Lengths.{prefixes-short}
 use Rattle.report.proofs.ListingLaws.{Listing, listing, list-next, listed-section, few}
 use Rattle.report.specs.StateLines.{prefixesWord, prefixLine, prefixesText}
@@ -13,10 +13,10 @@ use Rattle.report.proofs.listing.prefixes.Statement.{statement}
 use Rattle.report.proofs.listing.prefixes.Tie as tie
 
 abbrev Inv-loop : tie.InvT-loop
-Inv-loop out₀ at slaac k next₀ i₀ out next i = Listing 4 prefixLine [] (slaac .prefixes) (slaac .«prefix_count») k i out₀ next₀ next out
+Inv-loop out₀ at slaac count next₀ i₀ out next i = Listing 4 prefixLine [] (slaac .prefixes) (slaac .«prefix_count») count i out₀ next₀ next out
 
 abbrev μ-loop : tie.MeasureT-loop
-μ-loop out₀ at slaac k next₀ i₀ out next i = k - i
+μ-loop out₀ at slaac count next₀ i₀ out next i = count - i
 
 count-of-requires : tie.Need-count-of-requires Inv-loop μ-loop
 count-of-requires c κs = search needs
@@ -32,11 +32,11 @@ loop-holds c = let t = c .before .before .before .before .before .before .before
     let full : length (t .prefixes) ≡ 4 = search (needs, mapped) in
     listing 4 _ [] (t .prefixes) (t .«prefix_count») _ full (c .before .before .before .before .before .count-of .ensures) (put-none _ _)
 
-mul-e : tie.Need-mul-e Inv-loop μ-loop
-mul-e c = search needs
+mul-prefix : tie.Need-mul-prefix Inv-loop μ-loop
+mul-prefix c = search needs
 
-element-copy-out-e : tie.Need-element-copy-out-e Inv-loop μ-loop
-element-copy-out-e c = search needs
+element-copy-out-prefix : tie.Need-element-copy-out-prefix Inv-loop μ-loop
+element-copy-out-prefix c = search needs
 
 prefix-line-requires : tie.Need-prefix-line-requires Inv-loop μ-loop
 prefix-line-requires c κs = search needs
@@ -67,8 +67,8 @@ prefixes-spec =
     slice-aggregate-heading
     heading-requires
     loop-holds
-    mul-e
-    element-copy-out-e
+    mul-prefix
+    element-copy-out-prefix
     prefix-line-requires
     add-i
     loop-less

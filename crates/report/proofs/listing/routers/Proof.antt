@@ -3,7 +3,7 @@ use borrow.Author.Needs.{needs}
 use lib.ListN.{length}
 use mathlib.Core.List.{[]}
 use mathlib.Core.Path.{_≡_}
-use Rattle.learned.specs.LearnedRules.{routersOf, noRouter}
+use Rattle.slaac.specs.LearnedRules.{routersOf, noRouter}
 use Rattle.report.proofs.Lengths.{routers-short}
 use Rattle.report.proofs.ListingLaws.{Listing, listing, list-next, listed-section, few}
 use Rattle.report.specs.StateLines.{routersWord, routerLine, routersText}
@@ -13,10 +13,10 @@ use Rattle.report.proofs.listing.routers.Statement.{statement}
 use Rattle.report.proofs.listing.routers.Tie as tie
 
 abbrev Inv-loop : tie.InvT-loop
-Inv-loop out₀ at slaac k next₀ i₀ out next i = Listing 2 routerLine [] (slaac .routers) (slaac .«router_count») k i out₀ next₀ next out
+Inv-loop out₀ at slaac count next₀ i₀ out next i = Listing 2 routerLine [] (slaac .routers) (slaac .«router_count») count i out₀ next₀ next out
 
 abbrev μ-loop : tie.MeasureT-loop
-μ-loop out₀ at slaac k next₀ i₀ out next i = k - i
+μ-loop out₀ at slaac count next₀ i₀ out next i = count - i
 
 count-of-requires : tie.Need-count-of-requires Inv-loop μ-loop
 count-of-requires c κs = search needs
@@ -32,11 +32,11 @@ loop-holds c = let t = c .before .before .before .before .before .before .before
     let full : length (t .routers) ≡ 2 = search (needs, mapped) in
     listing 2 _ [] (t .routers) (t .«router_count») _ full (c .before .before .before .before .before .count-of .ensures) (put-none _ _)
 
-mul-e : tie.Need-mul-e Inv-loop μ-loop
-mul-e c = search needs
+mul-router : tie.Need-mul-router Inv-loop μ-loop
+mul-router c = search needs
 
-element-copy-out-e : tie.Need-element-copy-out-e Inv-loop μ-loop
-element-copy-out-e c = search needs
+element-copy-out-router : tie.Need-element-copy-out-router Inv-loop μ-loop
+element-copy-out-router c = search needs
 
 router-line-requires : tie.Need-router-line-requires Inv-loop μ-loop
 router-line-requires c κs = search needs
@@ -67,8 +67,8 @@ routers-spec =
     slice-aggregate-heading
     heading-requires
     loop-holds
-    mul-e
-    element-copy-out-e
+    mul-router
+    element-copy-out-router
     router-line-requires
     add-i
     loop-less

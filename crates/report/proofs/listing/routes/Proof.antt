@@ -13,10 +13,10 @@ use Rattle.report.proofs.listing.routes.Statement.{statement}
 use Rattle.report.proofs.listing.routes.Tie as tie
 
 abbrev Inv-loop : tie.InvT-loop
-Inv-loop out₀ at table k next₀ i₀ out next i = Listing 8 routeLine [] (table .slots) (table .len) k i out₀ next₀ next out
+Inv-loop out₀ at table count next₀ i₀ out next i = Listing 8 routeLine [] (table .slots) (table .len) count i out₀ next₀ next out
 
 abbrev μ-loop : tie.MeasureT-loop
-μ-loop out₀ at table k next₀ i₀ out next i = k - i
+μ-loop out₀ at table count next₀ i₀ out next i = count - i
 
 count-of-requires : tie.Need-count-of-requires Inv-loop μ-loop
 count-of-requires c κs = search needs
@@ -32,11 +32,11 @@ loop-holds c = let t = c .before .before .before .before .before .before .before
     let full : length (t .slots) ≡ 8 = search (needs, mapped) in
     listing 8 _ [] (t .slots) (t .len) _ full (c .before .before .before .before .before .count-of .ensures) (put-none _ _)
 
-mul-e : tie.Need-mul-e Inv-loop μ-loop
-mul-e c = search needs
+mul-route : tie.Need-mul-route Inv-loop μ-loop
+mul-route c = search needs
 
-element-copy-out-e : tie.Need-element-copy-out-e Inv-loop μ-loop
-element-copy-out-e c = search needs
+element-copy-out-route : tie.Need-element-copy-out-route Inv-loop μ-loop
+element-copy-out-route c = search needs
 
 route-line-requires : tie.Need-route-line-requires Inv-loop μ-loop
 route-line-requires c κs = search needs
@@ -67,8 +67,8 @@ routes-spec =
     slice-aggregate-heading
     heading-requires
     loop-holds
-    mul-e
-    element-copy-out-e
+    mul-route
+    element-copy-out-route
     route-line-requires
     add-i
     loop-less

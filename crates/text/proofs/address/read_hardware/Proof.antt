@@ -20,13 +20,13 @@ unhex-requires c κs = search needs
 
 returns-2 : tie.Need-returns-2
 unfolding hardwareOf
-returns-2 c = simp (eq-eqb _ _ (c .before .before .before .before .if1 .left), ne-eqb (length (unhexed (c .before .before .before .before .before .before .args .s .now))) 6 (λ q. c .if2 .taken (c .before .before .unhex .ensures .count ∙ q)))
+returns-2 c = simp (eq-eqb _ _ (c .before .before .before .before .if1 .left), ne-eqb (length (unhexed (c .before .before .before .before .before .before .args .field .now))) 6 (λ q. c .if2 .taken (c .before .before .unhex .ensures .count ∙ q)))
 
 from-octets-requires : tie.Need-from-octets-requires
 from-octets-requires c κs = search needs
 
 returns-3 : tie.Need-returns-3
-returns-3 c = hardware-good (c .before .before .before .before .before .before .before .before .args .s .now) _ _ (c .before .before .before .before .unhex .result) (c .from-octets .result) (c .before .before .before .before .before .before .if1 .left) (c .before .before .before .before .unhex .ensures) (c .before .before .if2 .left) refl (c .from-octets .ensures)
+returns-3 c = hardware-good (c .before .before .before .before .before .before .before .before .args .field .now) _ _ (c .before .before .before .before .unhex .result) (c .from-octets .result) (c .before .before .before .before .before .before .if1 .left) (c .before .before .before .before .unhex .ensures) (c .before .before .if2 .left) refl (c .from-octets .ensures)
 
 pub read-hardware-spec : {M : Type 1} → statement M
 read-hardware-spec =

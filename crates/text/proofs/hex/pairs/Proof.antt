@@ -9,10 +9,10 @@ use Rattle.text.proofs.hex.pairs.Statement.{statement}
 use Rattle.text.proofs.hex.pairs.Tie as tie
 
 abbrev Inv-loop : tie.InvT-loop
-Inv-loop s most n₀ n = (n ≤ most) × (length (unhexed s) ≡ n + length (unhexed (drop (2 * n) s)))
+Inv-loop digits most count₀ count = (count ≤ most) × (length (unhexed digits) ≡ count + length (unhexed (drop (2 * count) digits)))
 
 abbrev μ-loop : tie.MeasureT-loop
-μ-loop s most n₀ n = most - n
+μ-loop digits most count₀ count = most - count
 
 loop-holds : tie.Need-loop-holds Inv-loop μ-loop
 loop-holds c = search needs
@@ -39,22 +39,22 @@ nibble-requires-2 : tie.Need-nibble-requires-2 Inv-loop μ-loop
 nibble-requires-2 c κs = search needs
 
 returns : tie.Need-returns Inv-loop μ-loop
-returns c = let z = count-first (c .before .before .before .before .before .before .before .before .args .s .now) (c .before .before .before .before .before .before .loop .n) (c .before .before .before .nibble .result) (omega arith) (c .before .before .before .nibble .ensures .0) (c .if1 .taken) in (omega (arith, z, c .before .before .before .before .before .before .loop .inv .1), omega arith)
+returns c = let z = count-first (c .before .before .before .before .before .before .before .before .args .digits .now) (c .before .before .before .before .before .before .loop .count) (c .before .before .before .nibble .result) (omega arith) (c .before .before .before .nibble .ensures .0) (c .if1 .taken) in (omega (arith, z, c .before .before .before .before .before .before .loop .inv .1), omega arith)
 
 returns-2 : tie.Need-returns-2 Inv-loop μ-loop
-returns-2 c = let z = count-second (c .before .before .before .before .before .before .before .before .before .args .s .now) (c .before .before .before .before .before .before .before .loop .n) (c .before .before .before .before .nibble .result) (c .before .before .nibble2 .result) (omega arith) (c .before .before .before .before .nibble .ensures .0) (c .before .before .nibble2 .ensures .0) (c .before .if1 .left) (c .if2 .taken) in (omega (arith, z, c .before .before .before .before .before .before .before .loop .inv .1), omega arith)
+returns-2 c = let z = count-second (c .before .before .before .before .before .before .before .before .before .args .digits .now) (c .before .before .before .before .before .before .before .loop .count) (c .before .before .before .before .nibble .result) (c .before .before .nibble2 .result) (omega arith) (c .before .before .before .before .nibble .ensures .0) (c .before .before .nibble2 .ensures .0) (c .before .if1 .left) (c .if2 .taken) in (omega (arith, z, c .before .before .before .before .before .before .before .loop .inv .1), omega arith)
 
-add-n : tie.Need-add-n Inv-loop μ-loop
-add-n c = search needs
+add-count : tie.Need-add-count Inv-loop μ-loop
+add-count c = search needs
 
 loop-less : tie.Need-loop-less Inv-loop μ-loop
 loop-less c = search needs
 
 loop-again : tie.Need-loop-again Inv-loop μ-loop
-loop-again c = (omega arith, c .before .before .before .before .before .before .before .loop .inv .1 ∙ count-step (c .before .before .before .before .before .before .before .before .before .args .s .now) (c .before .before .before .before .before .before .before .loop .n) (c .before .before .before .before .nibble .result) (c .before .before .nibble2 .result) (omega arith) (c .before .before .before .before .nibble .ensures .0) (c .before .before .nibble2 .ensures .0) (c .before .if1 .left) (c .if2 .left))
+loop-again c = (omega arith, c .before .before .before .before .before .before .before .loop .inv .1 ∙ count-step (c .before .before .before .before .before .before .before .before .before .args .digits .now) (c .before .before .before .before .before .before .before .loop .count) (c .before .before .before .before .nibble .result) (c .before .before .nibble2 .result) (omega arith) (c .before .before .before .before .nibble .ensures .0) (c .before .before .nibble2 .ensures .0) (c .before .if1 .left) (c .if2 .left))
 
 returns-3 : tie.Need-returns-3 Inv-loop μ-loop
-returns-3 c = let z = count-end (c .before .before .before .args .s .now) (c .before .loop .n) (omega arith) in (omega (arith, z, c .before .loop .inv .1), omega arith)
+returns-3 c = let z = count-end (c .before .before .before .args .digits .now) (c .before .loop .count) (omega arith) in (omega (arith, z, c .before .loop .inv .1), omega arith)
 
 pub pairs-spec : {M : Type 1} → statement M
 pairs-spec =
@@ -72,7 +72,7 @@ pairs-spec =
     nibble-requires-2
     returns
     returns-2
-    add-n
+    add-count
     loop-less
     loop-again
     returns-3)

@@ -7,10 +7,10 @@ use Rattle.text.proofs.hex.unhex.Statement.{statement}
 use Rattle.text.proofs.hex.unhex.Tie as tie
 
 abbrev Inv-loop : tie.InvT-loop
-Inv-loop s out₀ most n₀ out n = (n ≤ most) × Unhexing s out₀ out n
+Inv-loop digits out₀ most count₀ out count = (count ≤ most) × Unhexing digits out₀ out count
 
 abbrev μ-loop : tie.MeasureT-loop
-μ-loop s out₀ most n₀ out n = most - n
+μ-loop digits out₀ most count₀ out count = most - count
 
 loop-holds : tie.Need-loop-holds Inv-loop μ-loop
 loop-holds c = (omega arith, record { same = refl; done = refl; rest = refl })
@@ -57,8 +57,8 @@ add-out c = search needs
 slice-write-out : tie.Need-slice-write-out Inv-loop μ-loop
 slice-write-out c = search needs
 
-add-n : tie.Need-add-n Inv-loop μ-loop
-add-n c = search needs
+add-count : tie.Need-add-count Inv-loop μ-loop
+add-count c = search needs
 
 loop-less : tie.Need-loop-less Inv-loop μ-loop
 loop-less c = search needs
@@ -93,7 +93,7 @@ unhex-spec =
     mul-out
     add-out
     slice-write-out
-    add-n
+    add-count
     loop-less
     loop-again
     same-length-3

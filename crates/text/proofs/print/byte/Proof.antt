@@ -13,10 +13,10 @@ same-length : tie.Need-same-length
 same-length c = search needs
 
 returns : tie.Need-returns
-returns c = put-byte (c .before .args .out .now) (c .before .args .at) (c .before .args .b) (c .if1 .taken)
+returns c = put-byte (c .before .args .out .now) (c .before .args .at) (c .before .args .value) (c .if1 .taken)
 
 returns-2 : tie.Need-returns-2
-returns-2 c = put-past (c .before .args .out .now) (c .before .args .at) (c .before .args .b) (c .if1 .left)
+returns-2 c = put-past (c .before .args .out .now) (c .before .args .at) (c .before .args .value) (c .if1 .left)
 
 pub byte-spec : {M : Type 1} → statement M
 byte-spec = tie.close (tie.spec slice-write-out add-result same-length returns returns-2)

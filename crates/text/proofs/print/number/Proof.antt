@@ -24,7 +24,7 @@ same-length c = search needs
 
 returns : tie.Need-returns
 unfolding decimal
-returns c = put-as (c .before .before .before .before .before .decimal .ensures .1 .1 ∙ spelled 20 (c .before .before .before .before .before .decimal .result) (c .before .before .before .before .before .before .before .before .args .n) (c .before .before .before .before .before .decimal .ensures .1 .0) (few (c .before .before .before .before .before .before .before .before .args .n) (c .before .before .before .before .before .decimal .result) (c .before .before .before .before .before .decimal .ensures .1 .0) (omega arith))) (c .before .before .word .ensures)
+returns c = put-as (c .before .before .before .before .before .decimal .ensures .1 .1 ∙ spelled 20 (c .before .before .before .before .before .decimal .result) (c .before .before .before .before .before .before .before .before .args .value) (c .before .before .before .before .before .decimal .ensures .1 .0) (few (c .before .before .before .before .before .before .before .before .args .value) (c .before .before .before .before .before .decimal .result) (c .before .before .before .before .before .decimal .ensures .1 .0) (omega arith))) (c .before .before .word .ensures)
 
 pub number-spec : {M : Type 1} → statement M
 number-spec =

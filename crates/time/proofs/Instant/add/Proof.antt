@@ -16,14 +16,14 @@ add-t6 c = search needs
 returns : tie.Need-returns
 returns c =
     let t = c .before .before .before .before .before .args .self in
-    let d = c .before .before .before .before .before .args .d in
+    let d = c .before .before .before .before .before .args .duration in
     let e : t .0 + d .0 ≡ min (t .0 + d .0) 0xffff_ffff_ffff_ffff = omega arith in
     ap {B = Instant} (λ (n : ℕ). record { 0 = n }) e
 
 returns-2 : tie.Need-returns-2
 returns-2 c =
     let t = c .before .before .before .args .self in
-    let d = c .before .before .before .args .d in
+    let d = c .before .before .before .args .duration in
     let e : 0xffff_ffff_ffff_ffff ≡ min (t .0 + d .0) 0xffff_ffff_ffff_ffff = omega arith in
     ap {B = Instant} (λ (n : ℕ). record { 0 = n }) e
 

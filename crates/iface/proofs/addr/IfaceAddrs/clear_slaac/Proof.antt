@@ -10,10 +10,10 @@ use Rattle.iface.proofs.addr.IfaceAddrs.clear_slaac.Statement.{statemen
 use Rattle.iface.proofs.addr.IfaceAddrs.clear_slaac.Tie as tie
 
 abbrev Inv-loop : tie.InvT-loop
-Inv-loop k t₀ w₀ i₀ t w i = Compacting 8 isFromSlaac (t₀ .slots) (t₀ .len) k (t .slots) w i
+Inv-loop len addrs₀ kept₀ i₀ addrs kept i = Compacting 8 isFromSlaac (addrs₀ .slots) (addrs₀ .len) len (addrs .slots) kept i
 
 abbrev μ-loop : tie.MeasureT-loop
-μ-loop k t₀ w₀ i₀ t w i = k - i
+μ-loop len addrs₀ kept₀ i₀ addrs kept i = len - i
 
 count-of-requires : tie.Need-count-of-requires Inv-loop μ-loop
 count-of-requires c κs = search needs
@@ -23,11 +23,11 @@ loop-holds c = let t = c .before .args .self in
     let full : length (t .slots) ≡ 8 = search (needs, mapped) in
     compacting 8 _ (t .slots) (t .len) _ full (c .count-of .ensures)
 
-mul-e : tie.Need-mul-e Inv-loop μ-loop
-mul-e c = search needs
+mul-entry : tie.Need-mul-entry Inv-loop μ-loop
+mul-entry c = search needs
 
-element-copy-out-e : tie.Need-element-copy-out-e Inv-loop μ-loop
-element-copy-out-e c = search needs
+element-copy-out-entry : tie.Need-element-copy-out-entry Inv-loop μ-loop
+element-copy-out-entry c = search needs
 
 add-i : tie.Need-add-i Inv-loop μ-loop
 add-i c = search needs
@@ -35,14 +35,14 @@ add-i c = search needs
 is-slaac-requires : tie.Need-is-slaac-requires Inv-loop μ-loop
 is-slaac-requires c κs = search needs
 
-mul-e-2 : tie.Need-mul-e-2 Inv-loop μ-loop
-mul-e-2 c = search needs
+mul-entry-2 : tie.Need-mul-entry-2 Inv-loop μ-loop
+mul-entry-2 c = search needs
 
-element-set-from-e : tie.Need-element-set-from-e Inv-loop μ-loop
-element-set-from-e c = search needs
+element-set-from-entry : tie.Need-element-set-from-entry Inv-loop μ-loop
+element-set-from-entry c = search needs
 
-add-w : tie.Need-add-w Inv-loop μ-loop
-add-w c = search needs
+add-kept : tie.Need-add-kept Inv-loop μ-loop
+add-kept c = search needs
 
 loop-less : tie.Need-loop-less Inv-loop μ-loop
 loop-less c = search needs
@@ -67,13 +67,13 @@ clear-slaac-spec =
     μ-loop
     count-of-requires
     loop-holds
-    mul-e
-    element-copy-out-e
+    mul-entry
+    element-copy-out-entry
     add-i
     is-slaac-requires
-    mul-e-2
-    element-set-from-e
-    add-w
+    mul-entry-2
+    element-set-from-entry
+    add-kept
     loop-less
     loop-again
     loop-less-2

@@ -9,16 +9,16 @@ use Rattle.iface.proofs.addr.IfaceAddrs.drop_addr.Statement.{statement}
 use Rattle.iface.proofs.addr.IfaceAddrs.drop_addr.Tie as tie
 
 abbrev Inv-loop2 : tie.InvT-loop2
-Inv-loop2 k i t₀ hole₀ next₀ t hole next = Moving 8 (t₀ .slots) (t₀ .len) i k (t .slots) hole next
+Inv-loop2 len i addrs₀ hole₀ next₀ addrs hole next = Moving 8 (addrs₀ .slots) (addrs₀ .len) i len (addrs .slots) hole next
 
 abbrev μ-loop2 : tie.MeasureT-loop2
-μ-loop2 k i t₀ hole₀ next₀ t hole next = k - next
+μ-loop2 len i addrs₀ hole₀ next₀ addrs hole next = len - next
 
 abbrev Inv-loop : tie.InvT-loop
-Inv-loop cidr self k i₀ i = Seek self cidr k i
+Inv-loop cidr self len i₀ i = Seek self cidr len i
 
 abbrev μ-loop : tie.MeasureT-loop
-μ-loop cidr self k i₀ i = k - i
+μ-loop cidr self len i₀ i = len - i
 
 count-of-requires : tie.Need-count-of-requires Inv-loop2 μ-loop2 Inv-loop μ-loop
 count-of-requires c κs = search needs
@@ -28,11 +28,11 @@ loop-holds c = let t = c .before .args .t1 in
     let full : length (t .slots) ≡ 8 = search (needs, mapped) in
     finding 8 _ _ _ (t .slots) (t .len) _ full (c .count-of .ensures)
 
-mul-old : tie.Need-mul-old Inv-loop2 μ-loop2 Inv-loop μ-loop
-mul-old c = search needs
+mul-entry : tie.Need-mul-entry Inv-loop2 μ-loop2 Inv-loop μ-loop
+mul-entry c = search needs
 
-element-copy-out-old : tie.Need-element-copy-out-old Inv-loop2 μ-loop2 Inv-loop μ-loop
-element-copy-out-old c = search needs
+element-copy-out-entry : tie.Need-element-copy-out-entry Inv-loop2 μ-loop2 Inv-loop μ-loop
+element-copy-out-entry c = search needs
 
 same-requires : tie.Need-same-requires Inv-loop2 μ-loop2 Inv-loop μ-loop
 same-requires c κs = search needs
@@ -97,8 +97,8 @@ drop-addr-spec =
     μ-loop
     count-of-requires
     loop-holds
-    mul-old
-    element-copy-out-old
+    mul-entry
+    element-copy-out-entry
     same-requires
     is-slaac-requires
     add-next

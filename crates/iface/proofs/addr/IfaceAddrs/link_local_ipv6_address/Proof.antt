@@ -2,17 +2,18 @@ use Prim.Native.Nat.{_-_}
 use borrow.Author.Needs.{needs}
 use lib.ListN.{length}
 use mathlib.Core.Path.{_≡_, sym, _∙_}
-use Rattle.iface.specs.AddressRules.{noAddr, isLocal, sourceOf, firstLocal}
+use Rattle.iface.proofs.Addresses.{local}
+use Rattle.iface.specs.AddressRules.{noAddr, isLocal, sourceOf}
 use Rattle.iface.specs.declared.addr.Source.the-variants.{Nothing}
 use Rattle.table.proofs.Laws.{mapped, Scanning, scanning, scan-next, scan-found, scan-none}
 use Rattle.iface.proofs.addr.IfaceAddrs.link_local_ipv6_address.Statement.{statement}
 use Rattle.iface.proofs.addr.IfaceAddrs.link_local_ipv6_address.Tie as tie
 
 abbrev Inv-loop : tie.InvT-loop
-Inv-loop self k i₀ i = Scanning 8 isLocal sourceOf Nothing (self .slots) (self .len) k i
+Inv-loop self len i₀ i = Scanning 8 isLocal sourceOf Nothing (self .slots) (self .len) len i
 
 abbrev μ-loop : tie.MeasureT-loop
-μ-loop self k i₀ i = k - i
+μ-loop self len i₀ i = len - i
 
 count-of-requires : tie.Need-count-of-requires Inv-loop μ-loop
 count-of-requires c κs = search needs
@@ -22,18 +23,17 @@ loop-holds c = let t = c .before .args .t1 in
     let full : length (t .slots) ≡ 8 = search (needs, mapped) in
     scanning 8 _ _ _ (t .slots) (t .len) _ full (c .count-of .ensures)
 
-mul-e : tie.Need-mul-e Inv-loop μ-loop
-mul-e c = search needs
+mul-entry : tie.Need-mul-entry Inv-loop μ-loop
+mul-entry c = search needs
 
-element-copy-out-e : tie.Need-element-copy-out-e Inv-loop μ-loop
-element-copy-out-e c = search needs
+element-copy-out-entry : tie.Need-element-copy-out-entry Inv-loop μ-loop
+element-copy-out-entry c = search needs
 
 is-link-local-requires : tie.Need-is-link-local-requires Inv-loop μ-loop
 is-link-local-requires c κs = search needs
 
 returns : tie.Need-returns Inv-loop μ-loop
-unfolding firstLocal
-returns c = scan-found noAddr (c .before .before .before .before .before .loop .inv) (c .before .before .before .before .loop-test .taken) (sym (c .before .is-link-local .ensures) ∙ c .if1 .taken)
+returns c = local _ _ (scan-found noAddr (c .before .before .before .before .before .loop .inv) (c .before .before .before .before .loop-test .taken) (sym (c .before .is-link-local .ensures) ∙ c .if1 .taken))
 
 add-i : tie.Need-add-i Inv-loop μ-loop
 add-i c = search needs
@@ -45,8 +45,7 @@ loop-again : tie.Need-loop-again Inv-loop μ-loop
 loop-again c = scan-next noAddr (c .before .before .before .before .before .loop .inv) (c .before .before .before .before .loop-test .taken) (sym (c .before .is-link-local .ensures) ∙ c .if1 .left)
 
 returns-2 : tie.Need-returns-2 Inv-loop μ-loop
-unfolding firstLocal
-returns-2 c = scan-none noAddr (c .before .loop .inv) (c .loop-test .left)
+returns-2 c = local _ _ (scan-none noAddr (c .before .loop .inv) (c .loop-test .left))
 
 pub link-local-ipv6-address-spec : {M : Type 1} → statement M
 link-local-ipv6-address-spec =
@@ -56,8 +55,8 @@ link-local-ipv6-address-spec =
     μ-loop
     count-of-requires
     loop-holds
-    mul-e
-    element-copy-out-e
+    mul-entry
+    element-copy-out-entry
     is-link-local-requires
     returns
     add-i

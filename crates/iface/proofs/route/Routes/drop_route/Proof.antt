@@ -9,16 +9,16 @@ use Rattle.iface.proofs.route.Routes.drop_route.Statement.{statement}
 use Rattle.iface.proofs.route.Routes.drop_route.Tie as tie
 
 abbrev Inv-loop2 : tie.InvT-loop2
-Inv-loop2 iface k i t₀ hole₀ next₀ t hole next = Moving 8 (t₀ .slots) (t₀ .len) i k (t .slots) hole next
+Inv-loop2 iface len i routes₀ hole₀ next₀ routes hole next = Moving 8 (routes₀ .slots) (routes₀ .len) i len (routes .slots) hole next
 
 abbrev μ-loop2 : tie.MeasureT-loop2
-μ-loop2 iface k i t₀ hole₀ next₀ t hole next = k - next
+μ-loop2 iface len i routes₀ hole₀ next₀ routes hole next = len - next
 
 abbrev Inv-loop : tie.InvT-loop
-Inv-loop iface via-router self k i₀ i = DropSeek self iface via-router k i
+Inv-loop iface via-router self len i₀ i = DropSeek self iface via-router len i
 
 abbrev μ-loop : tie.MeasureT-loop
-μ-loop iface via-router self k i₀ i = k - i
+μ-loop iface via-router self len i₀ i = len - i
 
 count-of-requires : tie.Need-count-of-requires Inv-loop2 μ-loop2 Inv-loop μ-loop
 count-of-requires c κs = search needs
@@ -28,11 +28,11 @@ loop-holds c = let t = c .before .args .t1 in
     let full : length (t .slots) ≡ 8 = search (needs, mapped) in
     finding 8 _ _ _ (t .slots) (t .len) _ full (c .count-of .ensures)
 
-mul-old : tie.Need-mul-old Inv-loop2 μ-loop2 Inv-loop μ-loop
-mul-old c = search needs
+mul-entry : tie.Need-mul-entry Inv-loop2 μ-loop2 Inv-loop μ-loop
+mul-entry c = search needs
 
-element-copy-out-old : tie.Need-element-copy-out-old Inv-loop2 μ-loop2 Inv-loop μ-loop
-element-copy-out-old c = search needs
+element-copy-out-entry : tie.Need-element-copy-out-entry Inv-loop2 μ-loop2 Inv-loop μ-loop
+element-copy-out-entry c = search needs
 
 installed-requires : tie.Need-installed-requires Inv-loop2 μ-loop2 Inv-loop μ-loop
 installed-requires c κs = search needs
@@ -91,8 +91,8 @@ drop-route-spec =
     μ-loop
     count-of-requires
     loop-holds
-    mul-old
-    element-copy-out-old
+    mul-entry
+    element-copy-out-entry
     installed-requires
     add-next
     loop2-holds

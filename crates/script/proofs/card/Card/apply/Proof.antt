@@ -1,7 +1,7 @@
 use borrow.Author.Needs.{needs}
 use mathlib.Core.Path.{refl}
 use Rattle.script.proofs.StepLaws.{still, of-address, of-event, event-fits}
-use Rattle.script.specs.declared.course.Said.the-variants.{Bad, Mac, Next}
+use Rattle.script.specs.declared.reading.Said.the-variants.{Bad, Mac, Next}
 use Rattle.script.proofs.card.Card.apply.Statement.{statement}
 use Rattle.script.proofs.card.Card.apply.Tie as tie
 

@@ -22,7 +22,7 @@ same-length : tie.Need-same-length
 same-length c = search needs
 
 returns : tie.Need-returns
-returns c = listed (c .before .before .before .before .before .before .before .before .before .before .before .before .before .before .before .before .before .before .before .before .before .before .before .before .before .args .self) (c .before .before .before .before .before .before .before .before .before .before .before .before .before .before .before .before .before .before .before .before .before .prefixes .ensures) (c .before .before .before .before .before .before .before .before .before .before .before .before .before .before .before .before .before .routers .ensures) (c .before .before .before .before .before .before .before .before .before .before .before .before .addresses .ensures) (c .before .before .before .before .before .before .before .routes .ensures) (c .before .before .neighbors .ensures)
+returns c = listed (c .before .before .before .before .before .before .before .before .before .before .before .before .before .before .before .before .before .before .before .before .before .before .before .before .before .args .self) (c .before .before .before .before .before .before .before .before .before .before .before .before .before .before .before .before .before .before .before .before .before .prefixes .ensures) (c .before .before .before .before .before .before .before .before .before .before .before .before .before .before .before .before .before .routers .ensures) (c .before .before .before .before .before .before .before .before .before .before .before .before .addresses .ensures) (c .before .before .before .before .before .before .before .routes2 .ensures) (c .before .before .neighbors .ensures)
 
 pub list-spec : {M : Type 1} → statement M
 list-spec =

@@ -1,12 +1,13 @@
 use borrow.Author.Needs.{needs}
 use borrow.Author.Tests.{eq-eqb, ne-eqb}
+use mathlib.Core.Path.{refl}
 use Rattle.wire.specs.Rfc2464.{formedOf}
 use Rattle.wire.proofs.ipv6.Ipv6Cidr.from_link_prefix.Statement.{statement}
 use Rattle.wire.proofs.ipv6.Ipv6Cidr.from_link_prefix.Tie as tie
 
 returns : tie.Need-returns
 unfolding formedOf
-returns c = simp (ne-eqb _ _ (c .if1 .taken))
+returns c = let t = ne-eqb _ 64 (c .if1 .taken) in record { is = simp t; number = refl; address = simp t }
 
 as-eui-64-requires : tie.Need-as-eui-64-requires
 as-eui-64-requires c κs = search needs
@@ -40,7 +41,13 @@ eight-requires c κs = search needs
 
 returns-2 : tie.Need-returns-2
 unfolding formedOf
-returns-2 c = simp (eq-eqb _ _ (c .before .before .if1 .left), c .eight .ensures, c .before .as-eui-64 .ensures)
+returns-2 c =
+    let t = eq-eqb _ 64 (c .before .before .if1 .left) in
+    record {
+      is = simp (t, c .eight .ensures, c .before .as-eui-64 .ensures);
+      number = refl;
+      address = simp (t, c .eight .ensures, c .before .as-eui-64 .ensures);
+    }
 
 pub from-link-prefix-spec : {M : Type 1} → statement M
 from-link-prefix-spec =

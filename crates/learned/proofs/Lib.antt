@@ -1,3 +1,0 @@
-pub mod LearnedLaws
-pub mod ExpiryLaws
-pub mod DiscoveryLaws

@@ -1,4 +1,0 @@
-pub mod LearnedRules
-pub mod ExpiryRules
-pub mod Answers
-pub mod DiscoveryRules

@@ -1,0 +1,2 @@
+pub mod OutputRules
+pub mod RunRules
