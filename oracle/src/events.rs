@@ -18,11 +18,13 @@ pub const LATEST: u64 = 1 << 62;
 const ADDRESSES: usize = 8;
 /// The longest lifetime in seconds that the Rust holds exactly: its `Duration` ends at 2^30 ms.
 pub const LONGEST: u64 = (1 << 30) / 1000;
+/// A lifetime of all ones, infinite by request 2026-01. The Rust has none.
+const FOREVER: u64 = u32::MAX as u64;
 
 pub struct Outcome {
     pub output: String,
-    /// Why the Rust can not be compared on this file, if so.
-    pub outside: Option<&'static str>,
+    /// The rule of the range that the file leaves first, and on which line, if it does.
+    pub outside: Option<String>,
 }
 
 /// A line that ends the output.
@@ -89,21 +91,9 @@ impl<'a> Lines<'a> {
 /// 64-bit times on the outside, 32-bit ones inside.
 struct Times {
     first: u64,
-    outside: Option<&'static str>,
 }
 
 impl Times {
-    fn inner(&mut self, time: u64) -> u32 {
-        self.note(time);
-        time as u32
-    }
-
-    fn note(&mut self, time: u64) {
-        if time < self.first || time - self.first >= 1 << 31 {
-            self.outside = Some("times further apart than 2^31 ms");
-        }
-    }
-
     fn outer(&self, time: u32) -> u64 {
         self.first + u64::from(time.wrapping_sub(self.first as u32))
     }
@@ -134,6 +124,7 @@ struct Host<'a> {
     lines: Lines<'a>,
     world: World,
     times: Times,
+    outside: Option<String>,
     out: String,
 }
 
@@ -143,8 +134,8 @@ pub fn run(input: &[u8]) -> Outcome {
         world: World::new([[2, 0, 0, 0, 0, 0]; world::IFACES]),
         times: Times {
             first: first_time(input),
-            outside: None,
         },
+        outside: None,
         out: String::new(),
     };
     match host.program() {
@@ -153,11 +144,32 @@ pub fn run(input: &[u8]) -> Outcome {
     }
     Outcome {
         output: host.out,
-        outside: host.times.outside,
+        outside: host.outside,
     }
 }
 
 impl Host<'_> {
+    /// The file leaves the range on this line; the first reason stays.
+    fn leaves(&mut self, rule: String) {
+        if self.outside.is_none() {
+            self.outside = Some(format!("{rule} (line {})", self.lines.number));
+        }
+    }
+
+    /// The time as the Rust takes it.
+    fn inner(&mut self, time: u64) -> u32 {
+        self.note(time);
+        time as u32
+    }
+
+    /// A time that comes up.
+    fn note(&mut self, time: u64) {
+        let first = self.times.first;
+        if time < first || time - first >= 1 << 31 {
+            self.leaves(format!("times further apart than 2^31 ms: {first} and {time}"));
+        }
+    }
+
     fn program(&mut self) -> Result<(), Bad> {
         let mac = match self.lines.fields()?[..] {
             [b"mac", mac] => text::fixed(mac).ok_or(Bad)?,
@@ -189,7 +201,7 @@ impl Host<'_> {
             return Err(Bad);
         }
         if link_local_differs(&addr) {
-            self.times.outside = Some("an address in fe80::/10 and not in fe80::/64");
+            self.leaves("an address in fe80::/10 and not in fe80::/64".into());
         }
         assert!(self.world.push_static(0, addr, len as u8));
         Ok(())
@@ -227,8 +239,8 @@ impl Host<'_> {
                 } else if !world::is_unicast(addr) || !world::is_unicast_mac(mac) {
                     self.refused(time, 2);
                 } else {
-                    self.times.note(time + 60_000);
-                    let now = self.times.inner(time);
+                    self.note(time + 60_000);
+                    let now = self.inner(time);
                     self.world.fill(0, addr, mac, now);
                 }
             }
@@ -250,8 +262,8 @@ impl Host<'_> {
         if time > LATEST {
             return self.refused(time, 3);
         }
-        self.times.note(time + 4_000);
-        let now = self.times.inner(time);
+        self.note(time + 4_000);
+        let now = self.inner(time);
         match self.world.poll(0, now, None, true).0 {
             Poll::Off => writeln!(self.out, "{time} off").unwrap(),
             Poll::Nothing => {}
@@ -274,7 +286,7 @@ impl Host<'_> {
         if !link_local(&source) {
             return self.refused(time, 6);
         }
-        let now = self.times.inner(time);
+        let now = self.inner(time);
         match self.world.advertise(0, source, message, now) {
             Advert::Off => unreachable!("SLAAC is on"),
             Advert::Taken => self.note_lifetimes(time, message),
@@ -285,8 +297,8 @@ impl Host<'_> {
     /// Whether an advertisement that was taken stays where the Rust can be compared.
     fn note_lifetimes(&mut self, time: u64, message: &[u8]) {
         let lifetime = u64::from(u16::from_be_bytes([message[6], message[7]]));
-        self.times.note(time + 1000 * lifetime);
-        self.times.note(time + 60_000);
+        self.note(time + 1000 * lifetime);
+        self.note(time + 60_000);
         let mut at = 16;
         while let Some(option) = message.get(at..)
             && option.len() >= 8
@@ -304,12 +316,14 @@ impl Host<'_> {
                     || preferred > valid && valid <= LONGEST
                     || link_local(prefix) && !link_local_differs(prefix);
                 if !skipped {
-                    if valid > LONGEST {
-                        self.times.outside = Some("a lifetime above the Rust's longest");
+                    if valid == FOREVER {
+                        self.leaves("a lifetime of all ones (2026-01)".into());
+                    } else if valid > LONGEST {
+                        self.leaves(format!("lifetime of {valid} s above {LONGEST}"));
                     }
-                    self.times.note(time + 1000 * valid);
+                    self.note(time + 1000 * valid);
                     if link_local_differs(prefix) {
-                        self.times.outside = Some("a prefix in fe80::/10 and not in fe80::/64");
+                        self.leaves("a prefix in fe80::/10 and not in fe80::/64".into());
                     }
                 }
             }
@@ -321,8 +335,8 @@ impl Host<'_> {
         if time > LATEST {
             return self.refused(time, 3);
         }
-        self.times.note(time + 1_000);
-        let now = self.times.inner(time);
+        self.note(time + 1_000);
+        let now = self.inner(time);
         for event in self.world.sweep(0, now, None).0 {
             match event {
                 Event::Retransmit(addr) => writeln!(self.out, "{time} retransmit {}", text::hex(&addr)).unwrap(),

@@ -127,9 +127,14 @@ struct Maker {
     few: u64,
     /// How often an advertisement is malformed: one in this.
     malformed: u64,
+    /// How many bytes the events print.
+    printed: usize,
 }
 
 const LINK_LOCAL: Addr = 0xfe80 << 112;
+
+/// The longest line, without its newline.
+const LINE: usize = crate::events::LINE;
 
 /// The `number`th file of a seed. With `wide` it may leave the range in which the Rust can be compared.
 pub fn file(seed: u64, number: u64, wide: bool) -> Vec<u8> {
@@ -157,6 +162,115 @@ pub fn file(seed: u64, number: u64, wide: bool) -> Vec<u8> {
         text.pop();
     }
     text
+}
+
+/// A file of three blocks of this many bytes and more, most of it in advertisements of up to the longest line. A reader that fills
+/// such a block, and keeps what it has of the last line in front of the next, meets its borders between the two digits of a byte of a
+/// longest line, behind a newline and in front of one: leading zeros of times put them there.
+pub fn long_input(seed: u64, block: usize) -> Vec<u8> {
+    let mut maker = Maker::new(Rng::new(seed, 0), false);
+    maker.few = 6;
+    let mut lines = Lines::new(&maker.file);
+    let mut end = block;
+    for border in 0..3 {
+        // The line at the border, and how much of it stands in front.
+        maker.malformed = u64::MAX;
+        let (time, event) = maker.long_advertisement(0);
+        maker.malformed = 12;
+        let width = LINE - " ".len() - event.line().len();
+        let line = format!("{time:0>width$} {}\n", event.line());
+        let in_front = [line.len() - 1_002, line.len(), line.len() - 1][border];
+        while end - lines.text.len() > in_front + 2 * LINE - 200 {
+            lines.long_or_short(&mut maker);
+        }
+        // Two lines of leading zeros fill up to where it has to begin.
+        for share in [2, 1] {
+            let (time, width) = (maker.now, (end - lines.text.len() - in_front) / share - " poll\n".len());
+            lines.push(&format!("{time:0>width$} poll\n"));
+            maker.put(time, Event::Poll);
+        }
+        let begin = lines.text.len();
+        assert_eq!(begin + in_front, end);
+        end = block + if in_front < line.len() { begin } else { end };
+        lines.push(&line);
+        maker.put(time, event);
+    }
+    for _ in 0..40 {
+        lines.long_or_short(&mut maker);
+    }
+    lines.done()
+}
+
+/// A file that prints more than so many bytes: tables of resolutions that run out together, with solicitations and refusals between them.
+pub fn long_output(seed: u64, bytes: usize) -> Vec<u8> {
+    let mut maker = Maker::new(Rng::new(seed, 0), false);
+    maker.few = 30;
+    maker.malformed = 3;
+    let mut off = false;
+    while maker.printed < bytes {
+        maker.now += maker.rng.below(700);
+        maker.put(maker.now, Event::Up);
+        for _ in 0..14 + maker.rng.below(8) {
+            let addr = maker.neighbour();
+            maker.put(maker.now, Event::Start(addr));
+        }
+        for _ in 0..4 + maker.rng.below(2) {
+            maker.put(maker.now, Event::Sweep);
+            maker.now += 1_000 + maker.rng.below(3);
+            for _ in 0..maker.rng.below(3) {
+                let (time, addr) = (maker.now, maker.neighbour());
+                match maker.rng.below(5) {
+                    0 => maker.put(time, Event::Fill(addr, 0x0100_5e00_0001)),
+                    1 => maker.put(LATEST + 1 + maker.now, Event::Sweep),
+                    2 => maker.step(Kind::Ra),
+                    _ => maker.put(time, Event::Poll),
+                }
+            }
+        }
+        // With SLAAC off a poll and an advertisement say so.
+        if !off && maker.printed > bytes / 4 * 3 {
+            off = true;
+            maker.put(maker.now, Event::Off);
+        }
+    }
+    maker.file.text().into_bytes()
+}
+
+/// The text of a file that grows line by line. The count of its events has room in front.
+struct Lines {
+    text: String,
+    count_at: usize,
+    events: usize,
+}
+
+impl Lines {
+    fn new(file: &File) -> Lines {
+        let text = file.text();
+        let head = text.strip_suffix("0\n").unwrap();
+        Lines {
+            text: format!("{head}00000\n"),
+            count_at: head.len(),
+            events: 0,
+        }
+    }
+
+    fn push(&mut self, line: &str) {
+        assert!(line.len() <= LINE + 1 && line.ends_with('\n'));
+        self.text += line;
+        self.events += 1;
+    }
+
+    /// One more event of the maker's.
+    fn long_or_short(&mut self, maker: &mut Maker) {
+        let (time, event) = maker.long_or_short();
+        self.push(&format!("{time} {}\n", event.line()));
+        maker.put(time, event);
+    }
+
+    fn done(mut self) -> Vec<u8> {
+        self.text.replace_range(self.count_at..self.count_at + 5, &format!("{:05}", self.events));
+        self.text.into_bytes()
+    }
 }
 
 /// A link-local address with a sum at the edge of 16 bits: of the pseudo-header alone or with the solicitation, as
@@ -257,6 +371,7 @@ impl Maker {
             macs,
             few,
             malformed,
+            printed: 0,
         };
         maker.addresses(own);
         maker
@@ -550,6 +665,43 @@ impl Maker {
         message
     }
 
+    /// An advertisement on a line of up to the longest, by up to `shorter` bytes less. One that is not to be malformed ends with an option.
+    fn long_advertisement(&mut self, shorter: u64) -> (u64, Event) {
+        let time = self.time(Kind::Ra);
+        let source = self.router();
+        let head = format!("{time} {}", Event::Ra(source, Vec::new()).line());
+        let mut room = (LINE - head.len()) / 2 - self.rng.below(shorter / 2 + 1) as usize;
+        if !self.rng.one_in(self.malformed) {
+            room -= room % 8;
+        }
+        let mut message = self.advertisement();
+        while message.len() < room {
+            let left = room - message.len();
+            let mut option = self.option();
+            if option.len() > left {
+                // What is left, as an option of an unknown type.
+                option = (0..left).map(|_| self.rng.next() as u8).collect();
+                option[0] = 24;
+                if left >= 8 {
+                    option.truncate(left / 8 * 8);
+                    option[1] = (left / 8) as u8;
+                }
+            }
+            message.extend(option);
+        }
+        (time, Event::Ra(source, message))
+    }
+
+    /// A long advertisement, or more often something short.
+    fn long_or_short(&mut self) -> (u64, Event) {
+        if self.rng.one_in(12) {
+            return self.long_advertisement(3_000);
+        }
+        let kind = self.rng.of(&[Kind::Poll, Kind::Sweep, Kind::Start, Kind::Fill, Kind::Remove, Kind::Ra, Kind::Up, Kind::Down]);
+        let time = self.time(kind);
+        (time, self.event(kind))
+    }
+
     /// One reason to refuse a message.
     fn spoil(&mut self, message: &mut Vec<u8>) {
         match self.rng.below(12) {
@@ -626,6 +778,7 @@ impl Maker {
     fn put(&mut self, time: u64, event: Event) {
         let mut out = String::new();
         apply(&mut self.model, time, &event, &mut out);
+        self.printed += out.len();
         self.file.events.push((time, event));
     }
 

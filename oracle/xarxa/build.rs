@@ -6,6 +6,8 @@
 use std::path::{Path, PathBuf};
 use std::{env, fs};
 
+mod sha256;
+
 const REAL: &[&str] = &[
     "config.rs",
     "error.rs",
@@ -103,7 +105,8 @@ fn checkout(here: &Path) -> PathBuf {
             return place.clone();
         }
     }
-    panic!("no src/neighbor.rs in {places:?}: set XARXA_SRC to the folder that has src/neighbor.rs (an absolute path)");
+    eprintln!("no src/neighbor.rs in {places:?}: set XARXA_SRC to the folder that has src/neighbor.rs (an absolute path)");
+    std::process::exit(1)
 }
 
 fn read(path: &Path) -> String {
@@ -116,23 +119,18 @@ fn write(path: &Path, text: &str) {
     fs::write(path, text).unwrap_or_else(|e| panic!("{}: {e}", path.display()));
 }
 
-/// FNV-1a in 64 bits: enough to see that two checkouts hold the same text.
-fn fnv(text: &str) -> u64 {
-    text.bytes()
-        .fold(0xcbf29ce484222325, |h, b| (h ^ u64::from(b)).wrapping_mul(0x100000001b3))
-}
-
 fn main() {
     let here = PathBuf::from(env::var("CARGO_MANIFEST_DIR").unwrap());
     let out = PathBuf::from(env::var("OUT_DIR").unwrap());
     let tree = out.join("tree");
     let from = checkout(&here).join("src");
     println!("cargo:rerun-if-changed=build.rs");
+    println!("cargo:rerun-if-changed=sha256.rs");
 
     let mut sources = String::new();
     for file in REAL {
         let real = read(&from.join(file));
-        sources += &format!("{} {} lines {:016x}\n", file, real.lines().count(), fnv(&real));
+        sources += &format!("src/{file} {} lines {}\n", real.lines().count(), sha256::digits(real.as_bytes()));
         let mut text = real.clone();
         if let Some((_, probe)) = PROBE.iter().find(|(f, _)| f == file) {
             text += "\n// The probe: everything above this line is the real file.\n";

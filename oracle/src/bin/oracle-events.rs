@@ -1,5 +1,5 @@
 //! Reads an event file on standard input and prints what document 01 says, with the state coming from the real code.
-//! `--sources` names the real files that are compiled in. Exit code 3: the file leaves the range in which the Rust can be
+//! `--sources` names the real files that are compiled in, with their lines and SHA-256. Exit code 3: the file leaves the range in which the Rust can be
 //! compared (the reason is on standard error).
 
 use std::io::{Read, Write};

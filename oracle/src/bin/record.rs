@@ -294,6 +294,35 @@ fn forever_cases() -> Vec<(&'static str, String)> {
     ]
 }
 
+/// What the event program holds of its input, and of its output.
+const IN_BLOCK: usize = 69_632;
+const OUT_BLOCK: usize = 65_536;
+/// One whose files have a link-local address, and refusals of each number.
+const LARGE_SEED: u64 = 149;
+
+/// Files above one block of input, and above one block of output.
+fn large_cases() -> Vec<(&'static str, Vec<u8>)> {
+    vec![
+        ("large: more than three blocks of input", generate::long_input(LARGE_SEED, IN_BLOCK)),
+        ("large: more than two blocks of output", generate::long_output(LARGE_SEED, 2 * OUT_BLOCK)),
+        ("large: one byte more than a block of input", one_byte_more(IN_BLOCK)),
+    ]
+}
+
+/// A reader that fills the block is brought the last byte alone: a digit, behind which no newline stands.
+fn one_byte_more(block: usize) -> Vec<u8> {
+    let last = "9 start 20010db8000000010000000000000007";
+    let polls = 18;
+    let mut text = format!("mac 020000000001\naddresses 1\nfe80000000000000000000fffe000001 64\nevents {}\n", polls + 1);
+    for left in (1..=polls).rev() {
+        let width = (block + 1 - last.len() - text.len()) / left - " poll\n".len();
+        text += &format!("{:0>width$} poll\n", 8);
+    }
+    text += last;
+    assert_eq!(text.len(), block + 1);
+    text.into_bytes()
+}
+
 /// Inputs of the format, most with one thing wrong. `@` stands for the good file below.
 fn format_cases() -> Vec<(String, Vec<u8>)> {
     let good = "mac 020000000001\naddresses 2\nfe80000000000000000000fffe000001 64\n20010db8000000010000000000000005 64\nevents 3\n0 up\n0 poll\n1 start 20010db8000000010000000000000007\n";
@@ -608,6 +637,14 @@ fn main() {
     }
     for (name, text) in forever_cases() {
         record.put_model(name, text.as_bytes());
+    }
+    // These must not be passed over.
+    for (name, input) in large_cases() {
+        if let Some(rule) = events::run(&input).outside {
+            eprintln!("{name}: {rule}");
+            exit(1)
+        }
+        record.put(name, &input);
     }
     let total: Vec<usize> = (0..names.len()).filter(|i| !names[*i].starts_with("calls.")).collect();
     let reached = total.iter().filter(|i| record.reached.contains(i)).count();
