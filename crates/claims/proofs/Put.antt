@@ -10,7 +10,7 @@ use mathlib.Core.Path.{_≡_, refl}
 use native.Mathlib.Omega.{arith}
 use Rattle.claims.proofs.Base.{swap-length}
 use Rattle.claims.specs.Watch.{isFilled, anyFilled}
-use Rattle.neighbor.proofs.Eviction.{victim-evicted}
+use Rattle.neighbor.proofs.Eviction.{victim-kind}
 use Rattle.neighbor.proofs.OneKey.{Freed, put-other}
 use Rattle.neighbor.specs.Eviction.{stateAt}
 use Rattle.neighbor.specs.NeighborRules.{Table, Key, sameKey, entry, find, kind, victim, insertState, removeKey, entriesOf}
@@ -47,7 +47,7 @@ evicted j t t' f = record { freed = f .freed; full = f .full; unfilled = λ s e 
     kinds s e u i l =
         let same : s ≡ stateAt t (victim t) = cc (f .was) in
         let some : 0 < length t = omega (arith, f .full) in
-        omega (arith, unfilled-kind (stateAt t (victim t)) (rw same at u), victim-evicted t some .first-kind i l)
+        omega (arith, unfilled-kind (stateAt t (victim t)) (rw same at u), victim-kind t some i l)
 
 pub put-apart : (j k : Key) (s : State) (t : Table) → sameKey j k ≡ false → length (entriesOf j t) ≤ 1
     → (entriesOf j (insertState k s t) ≡ entriesOf j t) ⊎ Evicted j t (insertState k s t)

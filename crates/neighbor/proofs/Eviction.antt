@@ -10,10 +10,11 @@ use mathlib.Core.Logic.{_⊎_, inl, inr}
 use mathlib.Core.Path.{_≡_, refl, sym, ap, _∙_}
 use native.Mathlib.Omega.{arith}
 use Rattle.neighbor.specs.CacheCalls.{blank}
-use Rattle.neighbor.specs.Eviction.{stateAt, Evicted, EvictionLaw, FindLaw}
+use Rattle.neighbor.specs.Eviction.{stateAt, NotAfter, Evicted, EvictionLaw, FindLaw}
 use Rattle.neighbor.specs.NeighborRules.{Table, kind, time, isKey, find, before, victimFrom, victim}
 use Rattle.neighbor.specs.declared.Entry.{Entry}
 use Rattle.neighbor.specs.declared.State.{State}
+use Rattle.neighbor.specs.declared.State.the-variants.{Started, Incomplete, Reachable, Stale}
 use Rattle.table.proofs.First.{first-from-law}
 
 -- The order of ranks
@@ -131,13 +132,61 @@ kind-of : (a b : State) → NotLater a b → kind a ≤ kind b
 kind-of a b (inl p) = omega arith
 kind-of a b (inr p) = omega (arith, p .0)
 
-time-of : (a b : State) → NotLater a b → kind b ≡ kind a → time a ≤ time b
-time-of a b (inl p) e = absurd (omega arith)
-time-of a b (inr p) e = p .1
+-- ranks are what the states say
+ranked : (a b : State) → NotLater a b → NotAfter a b
+ranked (Stale h) b l = tt
+ranked (Reachable h e) (Stale h') (inl p) = absurd (omega arith)
+ranked (Reachable h e) (Stale h') (inr p) = absurd (omega (arith, p .0))
+ranked (Reachable h e) (Reachable h' e') (inl p) = absurd (omega arith)
+ranked (Reachable h e) (Reachable h' e') (inr p) = p .1
+ranked (Reachable h e) (Incomplete p d) l = tt
+ranked (Reachable h e) Started l = tt
+ranked (Incomplete p d) (Stale h) (inl l) = absurd (omega arith)
+ranked (Incomplete p d) (Stale h) (inr l) = absurd (omega (arith, l .0))
+ranked (Incomplete p d) (Reachable h e) (inl l) = absurd (omega arith)
+ranked (Incomplete p d) (Reachable h e) (inr l) = absurd (omega (arith, l .0))
+ranked (Incomplete p d) (Incomplete p' d') (inl l) = absurd (omega arith)
+ranked (Incomplete p d) (Incomplete p' d') (inr l) = l .1
+ranked (Incomplete p d) Started l = tt
+ranked Started (Stale h) (inl l) = absurd (omega arith)
+ranked Started (Stale h) (inr l) = absurd (omega (arith, l .0))
+ranked Started (Reachable h e) (inl l) = absurd (omega arith)
+ranked Started (Reachable h e) (inr l) = absurd (omega (arith, l .0))
+ranked Started (Incomplete p d) (inl l) = absurd (omega arith)
+ranked Started (Incomplete p d) (inr l) = absurd (omega (arith, l .0))
+ranked Started Started l = tt
 
-not-tied : (a b : State) → Earlier a b → kind b ≡ kind a → time b ≡ time a → ⊥
-not-tied a b (inl p) e f = omega arith
-not-tied a b (inr p) e f = omega (arith, p .1)
+-- and what goes before another does not go when that one does
+not-tied : (a b : State) → Earlier a b → NotAfter b a → ⊥
+not-tied (Stale h) (Stale h') (inl p) n = omega arith
+not-tied (Stale h) (Stale h') (inr p) n = omega (arith, p .1)
+not-tied (Stale h) (Reachable h' e) l n = n
+not-tied (Stale h) (Incomplete p d) l n = n
+not-tied (Stale h) Started l n = n
+not-tied (Reachable h e) (Stale h') (inl p) n = omega arith
+not-tied (Reachable h e) (Stale h') (inr p) n = omega (arith, p .0)
+not-tied (Reachable h e) (Reachable h' e') (inl p) n = omega arith
+not-tied (Reachable h e) (Reachable h' e') (inr p) n = omega (arith, p .1)
+not-tied (Reachable h e) (Incomplete p d) l n = n
+not-tied (Reachable h e) Started l n = n
+not-tied (Incomplete p d) (Stale h) (inl l) n = omega arith
+not-tied (Incomplete p d) (Stale h) (inr l) n = omega (arith, l .0)
+not-tied (Incomplete p d) (Reachable h e) (inl l) n = omega arith
+not-tied (Incomplete p d) (Reachable h e) (inr l) n = omega (arith, l .0)
+not-tied (Incomplete p d) (Incomplete p' d') (inl l) n = omega arith
+not-tied (Incomplete p d) (Incomplete p' d') (inr l) n = omega (arith, l .1)
+not-tied (Incomplete p d) Started l n = n
+not-tied Started (Stale h) (inl l) n = omega arith
+not-tied Started (Stale h) (inr l) n = omega (arith, l .0)
+not-tied Started (Reachable h e) (inl l) n = omega arith
+not-tied Started (Reachable h e) (inr l) n = omega (arith, l .0)
+not-tied Started (Incomplete p d) (inl l) n = omega arith
+not-tied Started (Incomplete p d) (inr l) n = omega (arith, l .0)
+not-tied Started Started (inl l) n = omega arith
+not-tied Started Started (inr l) n = omega (arith, l .1)
+
+pub victim-kind : (t : Table) → 0 < length t → (j : ℕ) → j < length t → kind (stateAt t (victim t)) ≤ kind (stateAt t j)
+victim-kind t h j l = kind-of (stateAt t (victim t)) (stateAt t j) (best-victim t h .all j l)
 
 pub victim-evicted : (t : Table) → 0 < length t → Evicted t (victim t)
 victim-evicted t h =
@@ -145,18 +194,14 @@ victim-evicted t h =
     let b : Best t v (length t) = best-victim t h in
     record {
       within = b .inside;
-      first-kind = λ j l. kind-of (stateAt t v) (stateAt t j) (b .all j l);
-      earliest = λ j l e. time-of (stateAt t v) (stateAt t j) (b .all j l) e;
-      lowest = λ j l e f.
-          let n : j < v → ⊥ = λ g. not-tied (stateAt t v) (stateAt t j) (b .lower j g) e f in
+      first = λ j l. ranked (stateAt t v) (stateAt t j) (b .all j l);
+      lowest = λ j l e.
+          let n : j < v → ⊥ = λ g. not-tied (stateAt t v) (stateAt t j) (b .lower j g) e in
           omega arith;
     }
 
 one-place : (t : Table) (i v : ℕ) → Evicted t i → Evicted t v → i ≡ v
-one-place t i v a b =
-    let k : kind (stateAt t i) ≡ kind (stateAt t v) = omega (arith, a .first-kind v (b .within), b .first-kind i (a .within)) in
-    let m : time (stateAt t i) ≡ time (stateAt t v) = omega (arith, a .earliest v (b .within) (sym k), b .earliest i (a .within) k) in
-    omega (arith, a .lowest v (b .within) (sym k) (sym m), b .lowest i (a .within) k m)
+one-place t i v a b = omega (arith, a .lowest v (b .within) (b .first i (a .within)), b .lowest i (a .within) (a .first v (b .within)))
 
 pub only-victim : (t : Table) (i : ℕ) → Evicted t i → i ≡ victim t
 only-victim t i a = one-place t i (victim t) a (victim-evicted t (omega (arith, a .within)))
