@@ -1,0 +1,4 @@
+pub mod LoopRules
+pub mod Late
+pub mod Accounts
+pub mod Story
