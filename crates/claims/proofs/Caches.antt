@@ -9,8 +9,8 @@ use mathlib.Core.List.{List, [], _∷_, map}
 use mathlib.Core.Path.{_≡_, refl, sym, ap, _∙_, subst}
 use native.Mathlib.Omega.{arith}
 use Rattle.claims.proofs.Demand3.{demand3}
-use Rattle.claims.specs.Caches.{ofLookup, ofGot, ofOutcome, ofSweep, eventOf, eventList, Step, looks-up, starts, fills, inserts, gets, lists, removes, clears, advertises, turns-off, sweeps, sweeps-at, wentBy, heardAddr, heardMessage, heardBy, Run, none, one-more, OnCaches}
-use Rattle.claims.specs.Calls.{Call, lookup, start, fill, insert, get, remove, clear, sweep, advertise, turnOff, silence, address, reachable, check, meant, does, next, Answer, done, looked, got, swept, answer, answerBy, effectBy, answers, tableAfter, reply}
+use Rattle.claims.specs.Caches.{ofLookup, ofGot, ofOutcome, ofSweep, Step, looks-up, starts, fills, inserts, gets, lists, removes, clears, advertises, turns-off, sweeps, sweeps-at, wentBy, heardAddr, heardMessage, heardBy, Run, none, one-more, OnCaches}
+use Rattle.claims.specs.Calls.{Call, lookup, start, fill, insert, get, remove, clear, sweep, advertise, turnOff, silence, address, reachable, check, ifTaken, does, next, Answer, done, looked, got, swept, answer, answerBy, effectBy, answers, tableAfter, reply}
 use Rattle.claims.specs.Watch.{reportsAll}
 use Rattle.iface.specs.AddressRules.{clearAddrs}
 use Rattle.iface.specs.declared.addr.IfaceAddrs.{IfaceAddrs}
@@ -39,7 +39,7 @@ use Rattle.autoconf.specs.declared.LinkLayerAddr.the-variants.{Nothing as NoAdd
 use Rattle.autoconf.specs.declared.LinkLayerAddr.{LinkLayerAddr}
 use Rattle.autoconf.specs.declared.TurnedOff.{TurnedOff}
 use Rattle.sweep.proofs.Entries.{entries-of, sweep-entries, sweep-events}
-use Rattle.sweep.specs.SweepCalls.{nothing, slotOf, eventsTable, sweptIn, sweepBy, sweepCheck}
+use Rattle.sweep.specs.SweepCalls.{eventOf, eventList, slotOf, eventsTable, sweptIn, sweepBy, sweepCheck}
 use Rattle.sweep.specs.SweepRules.{sweepTable}
 use Rattle.sweep.specs.declared.ProbeEvent.{ProbeEvent}
 use Rattle.table.specs.Table.{swapRemove, firstOf}
@@ -48,16 +48,18 @@ use Rattle.time.specs.declared.Instant.{Instant}
 use Rattle.wire.specs.Rfc2464.{isUnicastHardware}
 use Rattle.wire.specs.declared.error.Check.the-variants.{Fine, Refused as Fails}
 use Rattle.wire.specs.declared.error.Check.{Check}
+use Rattle.wire.specs.declared.error.Refusal.{Refusal}
+use Rattle.wire.specs.declared.ethernet.HardwareAddress.{HardwareAddress}
 use Rattle.wire.specs.declared.ipv6.Ipv6Addr.{Ipv6Addr}
 
 -- a call that changes the entries
-changes : (x : Check) (call : Call) (c : NeighborCache) (xs : Table) → does (meant call) (entries c) ≡ xs → reply call (entries c) ≡ done
+changes : (x : Check) (call : Call) (c : NeighborCache) (xs : Table) → does (ifTaken call) (entries c) ≡ xs → reply call (entries c) ≡ done
     → (ofOutcome (changeBy x c (withEntries c xs) .outcome) ≡ answerBy x call (entries c)) × (entries (changeBy x c (withEntries c xs) .cache) ≡ does (effectBy x call) (entries c))
 changes (Fails why) call c xs h g = (refl, refl)
 changes Fine call c xs h g = (sym g, entries-of c xs ∙ sym h)
 
 -- a call that does nothing to the entries
-quiet : (x : Check) (call : Call) (c : NeighborCache) → does (meant call) (entries c) ≡ entries c → entries c ≡ does (effectBy x call) (entries c)
+quiet : (x : Check) (call : Call) (c : NeighborCache) → does (ifTaken call) (entries c) ≡ entries c → entries c ≡ does (effectBy x call) (entries c)
 quiet (Fails why) call c h = refl
 quiet Fine call c h = sym h
 
@@ -129,7 +131,7 @@ map-slots : (vs : List ProbeEvent) → map eventOf (map slotOf vs) ≡ vs
 map-slots [] = refl
 map-slots (v ∷ vs) = rw (map-slots vs)
 
-listed-events : (vs : List ProbeEvent) → eventList (eventsTable vs) ≡ vs
+pub listed-events : (vs : List ProbeEvent) → eventList (eventsTable vs) ≡ vs
 unfolding eventsTable
 listed-events vs = ap (map eventOf) (take-at (map slotOf vs) _ (length vs) (length-map vs slotOf)) ∙ map-slots vs
 
@@ -143,46 +145,46 @@ sweeping Fine c k i =
 
 -- an advertisement fills, or does nothing
 telling : (l : LinkLayerAddr) (c : NeighborCache) (i : ℕ) (source : Ipv6Addr) (now : Instant)
-    → entries (step5 c i source l now) ≡ does (meant (advertise (key i source) now (heardAddr l))) (entries c)
+    → entries (step5 c i source l now) ≡ does (ifTaken (advertise (key i source) now (heardAddr l))) (entries c)
 telling NoAddr c i source now = refl
 telling (IsAddr h) c i source now = go (isUnicastHardware h)
   where
     go : (b : Bool)
-        → entries (cond {A = NeighborCache} b (filledBy c i source h now) c) ≡ does (meant (advertise (key i source) now (cond b (address h) silence))) (entries c)
+        → entries (cond {A = NeighborCache} b (filledBy c i source h now) c) ≡ does (ifTaken (advertise (key i source) now (cond b (address h) silence))) (entries c)
     go true = entries-of c (insertState (key i source) (reachable h now) (entries c))
     go false = refl
 
 message : (y : Check) (s : Slaac) (c : NeighborCache) (i : ℕ) (source : Ipv6Addr) (msg : List ℕ) (now : Instant)
-    → entries (messageBy y s c i source msg now .cache) ≡ does (meant (advertise (key i source) now (heardMessage y (lastSource (optionsIn msg))))) (entries c)
+    → entries (messageBy y s c i source msg now .cache) ≡ does (ifTaken (advertise (key i source) now (heardMessage y (lastSource (optionsIn msg))))) (entries c)
 message (Fails why) s c i source msg now = refl
 message Fine s c i source msg now = telling (lastSource (optionsIn msg)) c i source now
 
 hearing : (x : Check) (s : Slaac) (c : NeighborCache) (i : ℕ) (source : Ipv6Addr) (msg : List ℕ) (now : Instant)
     → entries (callBy x s c i source msg now .cache)
-    ≡ does (meant (advertise (key i source) now (heardBy x (s .on) (messageCheck source msg) (lastSource (optionsIn msg))))) (entries c)
+    ≡ does (ifTaken (advertise (key i source) now (heardBy x (s .on) (messageCheck source msg) (lastSource (optionsIn msg))))) (entries c)
 hearing (Fails why) s c i source msg now = refl
 hearing Fine s c i source msg now = go (s .on)
   where
     go : (b : Bool)
         → entries (cond {A = Advertised} b (messageBy (messageCheck source msg) s c i source msg now) (record { slaac = s; cache = c; answer = Off }) .cache)
-        ≡ does (meant (advertise (key i source) now (cond b (heardMessage (messageCheck source msg) (lastSource (optionsIn msg))) silence))) (entries c)
+        ≡ does (ifTaken (advertise (key i source) now (cond b (heardMessage (messageCheck source msg) (lastSource (optionsIn msg))) silence))) (entries c)
     go true = message (messageCheck source msg) s c i source msg now
     go false = refl
 
 -- turning SLAAC off clears, or does nothing
-clearing : (went : Bool) (c : NeighborCache) (i : ℕ) → entries (clearedCache went c i) ≡ does (meant (turnOff i went)) (entries c)
+clearing : (went : Bool) (c : NeighborCache) (i : ℕ) → entries (clearedCache went c i) ≡ does (ifTaken (turnOff i went)) (entries c)
 clearing true c i = entries-of c (clearIface i (entries c))
 clearing false c i = refl
 
 turning : (x : Check) (s : Slaac) (t : IfaceAddrs) (r : Routes) (c : NeighborCache) (q : PendingQueue) (i : ℕ)
-    → entries (offBy x s t r c q i .cache) ≡ does (meant (turnOff i (wentBy x (s .on) (clearAddrs t .any)))) (entries c)
+    → entries (offBy x s t r c q i .cache) ≡ does (ifTaken (turnOff i (wentBy x (s .on) (clearAddrs t .any)))) (entries c)
 unfolding offNow
 turning (Fails why) s t r c q i = refl
 turning Fine s t r c q i = go (s .on)
   where
     go : (b : Bool)
         → entries (cond {A = TurnedOff} b (offNow t r c q i) (record { slaac = s; addrs = t; routes = r; cache = c; queue = q; outcome = Done }) .cache)
-        ≡ does (meant (turnOff i (cond b (clearAddrs t .any) false))) (entries c)
+        ≡ does (ifTaken (turnOff i (cond b (clearAddrs t .any) false))) (entries c)
     go true = clearing (clearAddrs t .any) c i
     go false = refl
 
@@ -191,9 +193,9 @@ turning Fine s t r c q i = go (s .on)
 abbrev Follows : NeighborCache → Call → Answer → NeighborCache → Type 0
 Follows c call a d = (a ≡ answer call (entries c)) × (entries d ≡ next call (entries c))
 
-changed : (x : Check) (call : Call) (c : NeighborCache) (r : Changed) → ChangedTo x c (withEntries c (does (meant call) (entries c))) r → reply call (entries c) ≡ done
+changed : (x : Check) (call : Call) (c : NeighborCache) (r : Changed) → ChangedTo x c (withEntries c (does (ifTaken call) (entries c))) r → reply call (entries c) ≡ done
     → (ofOutcome (r .outcome) ≡ answerBy x call (entries c)) × (entries (r .cache) ≡ does (effectBy x call) (entries c))
-changed x call c r h g = rw (h .is) (changes x call c (does (meant call) (entries c)) refl g)
+changed x call c r h g = rw (h .is) (changes x call c (does (ifTaken call) (entries c)) refl g)
 
 pub follows : {c : NeighborCache} {call : Call} {a : Answer} {d : NeighborCache} → Step c call a d → Follows c call a d
 unfolding check
@@ -220,10 +222,48 @@ pub follows-all : {c : NeighborCache} {cs : List Call} {as′ : List Answer} {d 
 follows-all (none c) = (refl, refl)
 follows-all (one-more {c = c} {call = call} {a = a} {d = d} {cs = cs} {as′ = as′} {e = e} s r) = more c call a d cs as′ e (follows s) (follows-all r)
 
+-- what tells nothing
+unheard : (x y : Check) (on : Bool) (l : LinkLayerAddr) (why : Refusal) → y ≡ Fails why → heardBy x on y l ≡ silence
+unheard (Fails reason) y on l why h = refl
+unheard Fine y true l why h = rw h
+unheard Fine y false l why h = refl
+
+off-unheard : (x y : Check) (l : LinkLayerAddr) → heardBy x false y l ≡ silence
+off-unheard (Fails reason) y l = refl
+off-unheard Fine y l = refl
+
+silent : (x y : Check) (on : Bool) (l : LinkLayerAddr) → heardAddr l ≡ silence → heardBy x on y l ≡ silence
+silent (Fails why) y on l h = refl
+silent Fine y false l h = refl
+silent Fine (Fails why) true l h = refl
+silent Fine Fine true l h = h
+
+group-silent : (l : LinkLayerAddr) (h : HardwareAddress) → l ≡ IsAddr h → isUnicastHardware h ≡ false → heardAddr l ≡ silence
+group-silent l h e g = rw (e, g)
+
+told : (x y : Check) (on : Bool) (l : LinkLayerAddr) (h : HardwareAddress) → x ≡ Fine → on ≡ true → y ≡ Fine → l ≡ IsAddr h → isUnicastHardware h ≡ true
+    → heardBy x on y l ≡ address h
+told x y on l h fine is-on taken e g = rw (fine, is-on, taken, e, g)
+
+off-none-went : (x : Check) (any : Bool) → wentBy x false any ≡ false
+off-none-went (Fails why) any = refl
+off-none-went Fine any = refl
+
 pub on-caches : OnCaches
 on-caches = record {
   step = λ c call a d h. follows h;
   run = λ c cs as′ d h. follows-all h;
   keys = λ cs as′ c h. subst (λ (t : Table). Distinct t × (length t ≤ 16)) (sym (follows-all h .1)) (demand3 .made cs);
   reports = λ k cs as′ c h. ap (reportsAll k) (follows-all h .0) ∙ demand3 .run k cs [] (demand3 .made [] .0);
+  refused-tells = λ s i source msg now why h. rw h;
+  message-tells = λ s i source msg now why h. unheard (timeCheck now i) (messageCheck source msg) (s .on) (lastSource (optionsIn msg)) why h;
+  off-tells = λ s i source msg now h. rw h (off-unheard (timeCheck now i) (messageCheck source msg) (lastSource (optionsIn msg)));
+  none-tells = λ s i source msg now e. silent (timeCheck now i) (messageCheck source msg) (s .on) (lastSource (optionsIn msg)) (ap heardAddr e);
+  group-tells =
+      λ s i source msg now h e g.
+      silent (timeCheck now i) (messageCheck source msg) (s .on) (lastSource (optionsIn msg)) (group-silent (lastSource (optionsIn msg)) h e g);
+  unicast-tells =
+      λ s i source msg now h fine on taken e g. told (timeCheck now i) (messageCheck source msg) (s .on) (lastSource (optionsIn msg)) h fine on taken e g;
+  refused-keeps = λ s t i why h. rw h;
+  off-keeps = λ s t i h. rw h (off-none-went (ifaceCheck i) (clearAddrs t .any));
 }

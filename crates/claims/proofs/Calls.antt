@@ -8,10 +8,10 @@ use mathlib.Core.List.{List, [], _∷_}
 use mathlib.Core.Logic.{_⊎_, inl, inr}
 use mathlib.Core.Path.{_≡_, refl, ap, _∙_}
 use native.Mathlib.Omega.{arith}
-use Rattle.claims.proofs.Base.{kept-length}
+use Rattle.claims.proofs.Lists.{kept-length}
 use Rattle.claims.proofs.Put.{Evicted, put-apart, put-length, remove-length}
 use Rattle.claims.proofs.Sweep.{sweep-entries, sweep-tells, watch-sweeps, told-sweeps, sweep-few, sweep-length}
-use Rattle.claims.specs.Calls.{silence, address, Call, lookup, start, fill, insert, get, at, remove, clear, sweep, advertise, turnOff, check, Effect, nothing, puts, removes, clears, sweeps, meant, effectBy, effect, does, next, reply, answerBy, answer, answers, tableAfter}
+use Rattle.claims.specs.Calls.{silence, address, Call, lookup, start, fill, insert, get, at, remove, clear, sweep, advertise, turnOff, check, Effect, nothing, puts, removes, clears, sweeps, ifTaken, effectBy, effect, does, next, reply, answerBy, answer, answers, tableAfter}
 use Rattle.claims.specs.Watch.{reportsIn, reportsAll, gone, watchOfState, watchOf, watchEffect, toldEffect, watchCall, toldBy, watchAll, toldAll, ownsEffect, owns, isSweepEffect, isSweep, putsOtherEffect, held, evicts, Kept, toldRun, isFilled, anyFilled}
 use Rattle.neighbor.proofs.Distinct.{distinct-put, distinct-remove, distinct-clear}
 use Rattle.neighbor.proofs.Keys.{sameKey-true}
@@ -136,7 +136,7 @@ does-watch k (sweeps i now) t late d kept =
 -- Calls
 
 -- a sweep that is taken is in time
-in-time : (now : Instant) (i : ℕ) → InTime (effectBy (firstRefusal (tooLate now ∷ noSuchIface i ∷ [])) (sweep i now))
+pub in-time : (now : Instant) (i : ℕ) → InTime (effectBy (firstRefusal (tooLate now ∷ noSuchIface i ∷ [])) (sweep i now))
 in-time now i = go (ltb (2 ^ 62) (now .0)) (ltb 3 i) refl
   where
     go : (x y : Bool) → ltb (2 ^ 62) (now .0) ≡ x
@@ -146,7 +146,7 @@ in-time now i = go (ltb (2 ^ 62) (now .0)) (ltb 3 i) refl
     go false false h = ltb-false (2 ^ 62) (now .0) h
 
 -- a call that means no sweep is always in time
-calm : (c : Call) (x : Check) → InTime (meant c) → InTime (effectBy x c)
+calm : (c : Call) (x : Check) → InTime (ifTaken c) → InTime (effectBy x c)
 calm c (Fails why) h = tt
 calm c Fine h = h
 
@@ -167,7 +167,7 @@ called-in-time (turnOff i false) = tt
 called-in-time (turnOff i true) = tt
 
 -- what a call reports of k, by what it does
-replies : (k : Key) (c : Call) (t : Table) → InTime (meant c) → Distinct t → reportsIn k (reply c t) ≡ toldEffect k (meant c) (watchOf (entriesOf k t))
+replies : (k : Key) (c : Call) (t : Table) → InTime (ifTaken c) → Distinct t → reportsIn k (reply c t) ≡ toldEffect k (ifTaken c) (watchOf (entriesOf k t))
 replies k (lookup j) t late d = refl
 replies k (start j) t late d = refl
 replies k (fill j h now) t late d = refl

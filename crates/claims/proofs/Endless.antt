@@ -5,6 +5,7 @@ use lib.Dec.{eqb, ltb}
 use mathlib.Core.Bool.{Bool, true, false, cond, _||_, not, true≢false}
 use mathlib.Core.Path.{_≡_, refl, sym, ap}
 use native.Mathlib.Omega.{arith}
+use Rattle.claims.proofs.Lists.{or-right}
 use Rattle.claims.specs.Endless.{Endless}
 use Rattle.iface.specs.AddressRules.{putAddr, dropAddr, firstLocal}
 use Rattle.iface.specs.RouteRules.{putRoute, dropRoute}
@@ -35,10 +36,6 @@ all-ones now s h = go (eqb s infinite) refl (ap never h)
     go : (b : Bool) → eqb s infinite ≡ b → never (cond b Forever (At (addOf now (secondsOf s)))) ≡ true → s ≡ infinite
     go true q r = eqb-true s infinite q
     go false q r = absurd (true≢false (sym r))
-
-or-right : (a b : Bool) → b ≡ true → (a || b) ≡ true
-or-right true b h = refl
-or-right false b h = h
 
 or-false : (a b : Bool) → (a || b) ≡ false → b ≡ false
 or-false true b h = absurd (true≢false h)

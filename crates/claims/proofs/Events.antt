@@ -6,7 +6,7 @@ use mathlib.Core.Bool.{Bool, true, false, cond}
 use mathlib.Core.List.{[], _∷_, _++_}
 use mathlib.Core.Path.{_≡_, refl, ap, _∙_}
 use native.Mathlib.Omega.{arith}
-use Rattle.claims.proofs.Base.{append-nil, length-lastFirst}
+use Rattle.claims.proofs.Lists.{append-nil, length-lastFirst}
 use Rattle.claims.proofs.Walk.{keep, walk}
 use Rattle.claims.specs.Calls.{at}
 use Rattle.neighbor.specs.NeighborRules.{Table}

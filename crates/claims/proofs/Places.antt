@@ -9,8 +9,8 @@ use mathlib.Core.List.{[], _∷_}
 use mathlib.Core.Logic.{_⊎_, inl, inr}
 use mathlib.Core.Path.{_≡_, refl, sym, ap, _∙_}
 use native.Mathlib.Omega.{arith}
-use Rattle.claims.proofs.Base.{swap-one}
 use Rattle.claims.proofs.Events.{events-one}
+use Rattle.claims.proofs.Lists.{swap-one}
 use Rattle.claims.specs.Places.{DueNow, NoneLeft, UntilNone, over, more, Places}
 use Rattle.neighbor.proofs.Scans.{first-of-law, lookup-law, get-law, remove-law}
 use Rattle.pending.proofs.Scans.{release-law, orphan-law}

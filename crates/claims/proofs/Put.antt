@@ -8,7 +8,7 @@ use mathlib.Core.List.{[], _∷_, _++_}
 use mathlib.Core.Logic.{_⊎_, inl, inr}
 use mathlib.Core.Path.{_≡_, refl}
 use native.Mathlib.Omega.{arith}
-use Rattle.claims.proofs.Base.{swap-length}
+use Rattle.claims.proofs.Lists.{swap-length}
 use Rattle.claims.specs.Watch.{isFilled, anyFilled}
 use Rattle.neighbor.proofs.Eviction.{victim-kind}
 use Rattle.neighbor.proofs.OneKey.{Freed, put-other}

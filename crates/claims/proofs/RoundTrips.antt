@@ -1,5 +1,5 @@
 -- What goes out comes back. Assumes nothing.
-use Prim.Native.Nat.{ℕ, _≤_}
+use Prim.Native.Nat.{ℕ}
 use borrow.Author.Tests.{leb-true}
 use lib.Dec.{leb}
 use lib.ListN.{length, take, drop}
@@ -10,7 +10,7 @@ use mathlib.Core.Path.{_≡_, refl, ap, _∙_}
 use native.Mathlib.Omega.{arith}
 use Rattle.claims.specs.RoundTrips.{RoundTrips}
 use Rattle.ndisc.proofs.RoundTrip.{source-back, source-written, target-written, prefix-written, mtu-written, untouched}
-use Rattle.ndisc.specs.Rfc4861Messages.{Solicits, solicitation, solicitIn, solicitedOf}
+use Rattle.ndisc.specs.Rfc4861Messages.{Solicits, solicitation}
 use Rattle.ndisc.specs.Rfc4861Options.{checkedOf}
 use Rattle.ndisc.specs.declared.ndisc.Solicited.the-variants.{Written, NoRoom}
 use Rattle.ndisc.specs.declared.ndiscoption.Checked.the-variants.{Well}

@@ -2,13 +2,15 @@
 use Prim.Native.Nat.{ℕ, _+_, _≤_, _<_, min}
 use borrow.Author.Tests.{eqb-true, eq-eqb, ltb-false}
 use lib.Dec.{eqb, ltb}
-use lib.ListN.{length, take, drop}
-use lib.Seq.{take-at}
+use lib.ListN.{length}
 use mathlib.Core.Bool.{Bool, true, false, cond, _&&_, true≢false}
 use mathlib.Core.List.{List, [], _∷_, _++_}
 use mathlib.Core.Path.{_≡_, refl, sym, ap, _∙_, subst}
 use native.Mathlib.Omega.{arith}
-use Rattle.claims.specs.Early.{All, stands, Earlier, Reaches, LastsTo, Spares, routeStands, RouterLastsTo, RouterSpares}
+use Rattle.claims.proofs.Lists.{lift, any-append, any-first, any-kept, all-first, all-if, all-with, all-kept}
+use Rattle.claims.specs.Early.{stands, Earlier, Reaches, LastsTo, routeStands, RouterLastsTo, RouterSpares}
+use Rattle.claims.specs.Lists.{All}
+use Rattle.autoconf.specs.AdvertRules.{optionsIn, prefixOptions, step2, steps2to4}
 use Rattle.iface.specs.AddressRules.{isAddr, isFromSlaac, slaacAddr, refreshed, gone, putAddr, dropAddr, anywhere}
 use Rattle.iface.specs.RouteRules.{isSlaac, isRoute, isInstalled, isLearned, extended, noneLeft, putRoute, dropRoute, clearRoutes}
 use Rattle.iface.specs.declared.addr.IfaceAddr.{IfaceAddr}
@@ -16,10 +18,11 @@ use Rattle.iface.specs.declared.addr.Preferred.{Preferred}
 use Rattle.iface.specs.declared.route.Route.{Route}
 use Rattle.slaac.specs.ExpiryRules.{prefixGone, routerGone, leaveExpired}
 use Rattle.slaac.specs.LearnedRules.{prefixesOf, routersOf, isSkipped, isPrefix, cidrOf, infinite, untilOf, prefixOf, putOver, addPrefix, prefixEnds, expirePrefix, processPrefix, isRouter, addRouter, routerEnds, expireRouter, processRouter}
-use Rattle.table.specs.Table.{ifRoom, filled, kept, atFirst, anyOf}
+use Rattle.table.specs.Table.{ifRoom, foldOver, kept, atFirst}
 use Rattle.slaac.specs.declared.Prefix.{Prefix}
 use Rattle.slaac.specs.declared.Router.{Router}
 use Rattle.slaac.specs.declared.Slaac.{Slaac}
+use Rattle.ndisc.specs.Rfc4861Messages.{routerAdvertAt}
 use Rattle.ndisc.specs.declared.ndiscoption.PrefixInformation.{PrefixInformation}
 use Rattle.neighbor.proofs.Keys.{and-true}
 use Rattle.time.specs.ClockRules.{isAfter}
@@ -37,57 +40,25 @@ use Rattle.wire.specs.declared.ipv6.Ipv6Cidr.{Ipv6Cidr}
 
 -- Equal addresses, tested and stated
 
-same-addr : (a b : Ipv6Addr) → sameAddr a b ≡ true → a ≡ b
+pub same-addr : (a b : Ipv6Addr) → sameAddr a b ≡ true → a ≡ b
 same-addr a b e = λ i. record { hi = eqb-true (a .hi) (b .hi) (x .0) i; lo = eqb-true (a .lo) (b .lo) (x .1) i }
   where
     x : (eqb (a .hi) (b .hi) ≡ true) × (eqb (a .lo) (b .lo) ≡ true)
     x = and-true _ _ e
 
-same-cidr : (a b : Ipv6Cidr) → sameCidr a b ≡ true → a ≡ b
+pub same-cidr : (a b : Ipv6Cidr) → sameCidr a b ≡ true → a ≡ b
 same-cidr a b e =
     λ i. record { address = same-addr (a .address) (b .address) (x .0) i; «prefix_len» = eqb-true (a .«prefix_len») (b .«prefix_len») (x .1) i }
   where
     x : (sameAddr (a .address) (b .address) ≡ true) × (eqb (a .«prefix_len») (b .«prefix_len») ≡ true)
     x = and-true _ _ e
 
-sameAddr-refl : (a : Ipv6Addr) → sameAddr a a ≡ true
+pub sameAddr-refl : (a : Ipv6Addr) → sameAddr a a ≡ true
 sameAddr-refl a = rw (eq-eqb (a .hi) (a .hi) refl, eq-eqb (a .lo) (a .lo) refl)
-
--- Lists
-
-module _ {A : Type 0} (P : A → Type 0) where
-  all-append : (xs ys : List A) → All P xs → All P ys → All P (xs ++ ys)
-  all-append [] ys h g = g
-  all-append (x ∷ xs) ys h g = (h .0, all-append xs ys (h .1) g)
-
-  pub all-kept : (test : A → Bool) (xs : List A) → All P xs → All P (kept test xs)
-  all-kept test [] h = tt
-  all-kept test (x ∷ xs) h = go (test x) (all-kept test xs (h .1))
-    where
-      go : (b : Bool) → All P (kept test xs) → All P (cond b (kept test xs) (x ∷ kept test xs))
-      go true r = r
-      go false r = (h .0, r)
-
-  pub all-first : (test : A → Bool) (f : A → List A) (new xs : List A) → All P xs → All P new
-      → ((x : A) → test x ≡ true → P x → All P (f x)) → All P (atFirst test f new xs)
-  all-first test f new [] h n m = n
-  all-first test f new (x ∷ xs) h n m = go (test x) refl (all-first test f new xs (h .1) n m)
-    where
-      go : (b : Bool) → test x ≡ b → All P (atFirst test f new xs) → All P (cond b (f x ++ xs) (x ∷ atFirst test f new xs))
-      go true e r = all-append (f x) xs (m x e (h .0)) (h .1)
-      go false e r = (h .0, r)
-
-  all-if : (b : Bool) (x : A) → P x → All P (cond b (x ∷ []) [])
-  all-if true x h = (h, tt)
-  all-if false x h = tt
 
 -- The address table
 
-lift : (y a u v : Bool) → (u ≡ true → v ≡ true) → cond y a u ≡ true → cond y a v ≡ true
-lift true a u v f h = h
-lift false a u v f h = f h
-
-other : (e c a : Ipv6Cidr) → sameCidr e c ≡ true → sameCidr c a ≡ false → sameCidr e a ≡ false
+pub other : (e c a : Ipv6Cidr) → sameCidr e c ≡ true → sameCidr c a ≡ false → sameCidr e a ≡ false
 other e c a p q = ap (λ (x : Ipv6Cidr). sameCidr x a) (same-cidr e c p) ∙ q
 
 first-keeps : (a c : Ipv6Cidr) (p : Preferred) (new es : List IfaceAddr) → stands a es ≡ true → stands a (atFirst (isAddr c) (refreshed p) new es) ≡ true
@@ -133,14 +104,22 @@ add-stands a e (x ∷ es) h = lift (isAddr a x) (isFromSlaac x) (stands a es) _ 
 
 -- The prefix table
 
-pub entries-with : {A : Type 0} (s xs : List A) → take (length xs) (filled s xs) ≡ xs
-entries-with s xs = take-at xs (drop (length xs) s) (length xs) refl
+-- what a router's entry and the flags do leaves the prefixes
+router-prefixes : (now : Instant) (s : Slaac) (source : Ipv6Addr) (d : Duration) → prefixesOf (processRouter now s source d) ≡ prefixesOf s
+unfolding processRouter addRouter expireRouter
+router-prefixes now s source d = go (ltb 0 (d .0))
+  where
+    go : (x : Bool) → prefixesOf (cond {A = Slaac} x (addRouter s (record { addr = source; «valid_until» = addOf now d })) (expireRouter s source now)) ≡ prefixesOf s
+    go true = refl
+    go false = refl
 
-all-with : {A : Type 0} (P : A → Type 0) (s xs : List A) → All P xs → All P (take (length xs) (filled s xs))
-all-with P s xs h = rw (entries-with s xs) h
+pub steps-prefixes : (s : Slaac) (source : Ipv6Addr) (msg : List ℕ) (now : Instant)
+    → prefixesOf (steps2to4 s source msg now) ≡ prefixesOf (foldOver (processPrefix now) s (prefixOptions (optionsIn msg)))
+unfolding step2
+steps-prefixes s source msg now = router-prefixes now (foldOver (processPrefix now) s (prefixOptions (optionsIn msg))) source (secondsOf (routerAdvertAt msg .«router_lifetime»))
 
 -- a lifetime of 0 that reaches v from now: now does
-at-once : (v : Expiry) (now : Instant) (s : ℕ) → s ≤ 0 → Reaches v (untilOf now s) → Reaches v (At now)
+pub at-once : (v : Expiry) (now : Instant) (s : ℕ) → s ≤ 0 → Reaches v (untilOf now s) → Reaches v (At now)
 at-once v now s z h = go v (eqb s infinite) refl h
   where
     go : (v : Expiry) (b : Bool) → eqb s infinite ≡ b → Reaches v (cond b Forever (At (addOf now (secondsOf s)))) → Reaches v (At now)
@@ -148,106 +127,66 @@ at-once v now s z h = go v (eqb s infinite) refl h
     go (At u) false e r = omega arith
     go Forever false e r = r
 
-module _ (v : Expiry) (hw : HardwareAddress) (a : Ipv6Cidr) where
-  abbrev lasts : Prefix → Type 0
-  lasts = LastsTo v hw a
-
-  add-lasts : (s : Slaac) (p : Prefix) → All lasts (prefixesOf s) → lasts p → All lasts (prefixesOf (addPrefix s p))
+-- what holds of every prefix: an advertisement keeps it if it holds of each prefix that is put, and of one that an option without a lifetime ends
+module _ (P : Prefix → Type 0)
+    (ends : (now : Instant) (o : PrefixInformation) → o .«valid_lifetime» ≤ 0 → P (prefixOf o now) → (x : Prefix) → isPrefix (cidrOf o) x ≡ true → All P (prefixEnds now x)) where
+  add-all : (s : Slaac) (p : Prefix) → All P (prefixesOf s) → P p → All P (prefixesOf (addPrefix s p))
   unfolding addPrefix
-  add-lasts s p h g =
-      all-with lasts (s .prefixes) (atFirst (isPrefix (p .cidr)) (putOver p) (ifRoom 4 (prefixesOf s) p) (prefixesOf s))
-      (all-first lasts (isPrefix (p .cidr)) (putOver p) (ifRoom 4 (prefixesOf s) p) (prefixesOf s) h (all-if lasts (ltb (length (prefixesOf s)) 4) p g) (λ x e q. (g, tt)))
+  add-all s p h g =
+      all-with P (s .prefixes) (atFirst (isPrefix (p .cidr)) (putOver p) (ifRoom 4 (prefixesOf s) p) (prefixesOf s))
+      (all-first P (isPrefix (p .cidr)) (putOver p) (ifRoom 4 (prefixesOf s) p) (prefixesOf s) h (all-if P (ltb (length (prefixesOf s)) 4) p g) (λ x e q. (g, tt)))
 
-  expire-lasts : (s : Slaac) (c : Ipv6Cidr) (now : Instant) → All lasts (prefixesOf s) → (formedOf hw c ≡ Addr a → Reaches v (At now))
-      → All lasts (prefixesOf (expirePrefix s c now))
+  expire-all : (s : Slaac) (c : Ipv6Cidr) (now : Instant) → All P (prefixesOf s) → ((x : Prefix) → isPrefix c x ≡ true → All P (prefixEnds now x))
+      → All P (prefixesOf (expirePrefix s c now))
   unfolding expirePrefix
-  expire-lasts s c now h g =
-      all-with lasts (s .prefixes) (atFirst (isPrefix c) (prefixEnds now) [] (prefixesOf s))
-      (all-first lasts (isPrefix c) (prefixEnds now) [] (prefixesOf s) h tt
-      (λ x e q. ((λ f. g (ap (formedOf hw) (sym (same-cidr (x .cidr) c e)) ∙ f)), tt)))
+  expire-all s c now h g =
+      all-with P (s .prefixes) (atFirst (isPrefix c) (prefixEnds now) [] (prefixesOf s))
+      (all-first P (isPrefix c) (prefixEnds now) [] (prefixesOf s) h tt (λ x e q. g x e))
 
-  pub process-lasts : (now : Instant) (s : Slaac) (o : PrefixInformation) → All lasts (prefixesOf s) → Spares v hw a now o
-      → All lasts (prefixesOf (processPrefix now s o))
+  process-all : (now : Instant) (s : Slaac) (o : PrefixInformation) → All P (prefixesOf s) → (isSkipped o ≡ false → P (prefixOf o now))
+      → All P (prefixesOf (processPrefix now s o))
   unfolding processPrefix
-  process-lasts now s o h g = go (isSkipped o) (ltb 0 (o .«valid_lifetime»)) refl refl
+  process-all now s o h g = go (isSkipped o) (ltb 0 (o .«valid_lifetime»)) refl refl
     where
       go : (x y : Bool) → isSkipped o ≡ x → ltb 0 (o .«valid_lifetime») ≡ y
-          → All lasts (prefixesOf (cond {A = Slaac} x s (cond {A = Slaac} y (addPrefix s (prefixOf o now)) (expirePrefix s (cidrOf o) now))))
+          → All P (prefixesOf (cond {A = Slaac} x s (cond {A = Slaac} y (addPrefix s (prefixOf o now)) (expirePrefix s (cidrOf o) now))))
       go true y ex ey = h
-      go false true ex ey = add-lasts s (prefixOf o now) h (g ex)
-      go false false ex ey = expire-lasts s (cidrOf o) now h (λ f. at-once v now (o .«valid_lifetime») (ltb-false 0 (o .«valid_lifetime») ey) (g ex f))
+      go false true ex ey = add-all s (prefixOf o now) h (g ex)
+      go false false ex ey = expire-all s (cidrOf o) now h (λ x e. ends now o (ltb-false 0 (o .«valid_lifetime») ey) (g ex) x e)
 
-  pub leave-lasts : (now : Instant) (s : Slaac) → All lasts (prefixesOf s) → All lasts (prefixesOf (leaveExpired now s))
-  unfolding leaveExpired
-  leave-lasts now s h = all-with lasts (s .prefixes) (kept (prefixGone now) (prefixesOf s)) (all-kept lasts (prefixGone now) (prefixesOf s) h)
+  options-all : (now : Instant) (os : List PrefixInformation) (s : Slaac) → All P (prefixesOf s) → All (λ o. isSkipped o ≡ false → P (prefixOf o now)) os
+      → All P (prefixesOf (foldOver (processPrefix now) s os))
+  options-all now [] s l h = l
+  options-all now (o ∷ os) s l h = options-all now os (processPrefix now s o) (process-all now s o l (h .0)) (h .1)
 
-  -- what a router's entry and the flags do leaves the prefixes
-  pub router-apart : (now : Instant) (s : Slaac) (source : Ipv6Addr) (d : Duration) → prefixesOf (processRouter now s source d) ≡ prefixesOf s
-  unfolding processRouter addRouter expireRouter
-  router-apart now s source d = go (ltb 0 (d .0))
-    where
-      go : (x : Bool) → prefixesOf (cond {A = Slaac} x (addRouter s (record { addr = source; «valid_until» = addOf now d })) (expireRouter s source now)) ≡ prefixesOf s
-      go true = refl
-      go false = refl
+  pub learned-all : (s : Slaac) (source : Ipv6Addr) (msg : List ℕ) (now : Instant) → All P (prefixesOf s)
+      → All (λ o. isSkipped o ≡ false → P (prefixOf o now)) (prefixOptions (optionsIn msg)) → All P (prefixesOf (steps2to4 s source msg now))
+  learned-all s source msg now l h = subst (All P) (sym (steps-prefixes s source msg now)) (options-all now (prefixOptions (optionsIn msg)) s l h)
+
+pub leave-all : (P : Prefix → Type 0) (now : Instant) (s : Slaac) → All P (prefixesOf s) → All P (prefixesOf (leaveExpired now s))
+unfolding leaveExpired
+leave-all P now s h = all-with P (s .prefixes) (kept (prefixGone now) (prefixesOf s)) (all-kept P (prefixGone now) (prefixesOf s) h)
 
 -- The routes
 
-module _ {A : Type 0} (seen : A → Bool) where
-  any-append : (xs ys : List A) → anyOf seen xs ≡ true → anyOf seen (xs ++ ys) ≡ true
-  any-append [] ys h = absurd (true≢false (sym h))
-  any-append (x ∷ xs) ys h = lift (seen x) true (anyOf seen xs) _ (any-append xs ys) h
-
-  any-after : (xs ys : List A) → anyOf seen ys ≡ true → anyOf seen (xs ++ ys) ≡ true
-  any-after [] ys h = h
-  any-after (x ∷ xs) ys h = go (seen x) (any-after xs ys h)
-    where
-      go : (b : Bool) → anyOf seen (xs ++ ys) ≡ true → cond b true (anyOf seen (xs ++ ys)) ≡ true
-      go true r = refl
-      go false r = r
-
-  any-first : (test : A → Bool) (f : A → List A) (new xs : List A) → anyOf seen xs ≡ true
-      → ((x : A) → test x ≡ true → seen x ≡ true → anyOf seen (f x) ≡ true) → anyOf seen (atFirst test f new xs) ≡ true
-  any-first test f new [] h m = absurd (true≢false (sym h))
-  any-first test f new (x ∷ xs) h m = go (test x) refl (λ r. any-first test f new xs r m)
-    where
-      there : (b : Bool) → seen x ≡ b → test x ≡ true → cond b true (anyOf seen xs) ≡ true → anyOf seen (f x ++ xs) ≡ true
-      there true q e r = any-append (f x) xs (m x e q)
-      there false q e r = any-after (f x) xs r
-
-      go : (b : Bool) → test x ≡ b → (anyOf seen xs ≡ true → anyOf seen (atFirst test f new xs) ≡ true)
-          → anyOf seen (cond b (f x ++ xs) (x ∷ atFirst test f new xs)) ≡ true
-      go true e ih = there (seen x) refl e h
-      go false e ih = lift (seen x) true (anyOf seen xs) _ ih h
-
-  any-kept : (test : A → Bool) → ((x : A) → seen x ≡ true → test x ≡ false) → (xs : List A) → anyOf seen xs ≡ true → anyOf seen (kept test xs) ≡ true
-  any-kept test m [] h = h
-  any-kept test m (x ∷ xs) h = go (seen x) (test x) refl refl h (any-kept test m xs)
-    where
-      go : (b y : Bool) → seen x ≡ b → test x ≡ y → cond b true (anyOf seen xs) ≡ true → (anyOf seen xs ≡ true → anyOf seen (kept test xs) ≡ true)
-          → anyOf seen (cond y (kept test xs) (x ∷ kept test xs)) ≡ true
-      go true true q e r ih = absurd (true≢false (sym e ∙ m x q))
-      go true false q e r ih = rw q
-      go false true q e r ih = ih r
-      go false false q e r ih = rw q (ih r)
-
 -- a default route that is installed is of its interface and its router
 module _ (i : ℕ) (via : Ipv6Addr) (e : Route) (h : isInstalled i via e ≡ true) where
-  installed-route : isRoute i anywhere via e ≡ true
+  pub installed-route : isRoute i anywhere via e ≡ true
   installed-route = and-true (isSlaac (e .origin)) (isRoute i anywhere via e) h .1
 
-  installed-here : e .iface ≡ i
+  pub installed-here : e .iface ≡ i
   installed-here =
       eqb-true (e .iface) i
       (and-true (eqb (e .iface) i) (sameCidr (e .cidr) anywhere)
       (and-true (eqb (e .iface) i && sameCidr (e .cidr) anywhere) (sameAddr (e .«via_router») via) installed-route .0) .0)
 
-  installed-via : e .«via_router» ≡ via
+  pub installed-via : e .«via_router» ≡ via
   installed-via =
       same-addr (e .«via_router») via
       (and-true (eqb (e .iface) i && sameCidr (e .cidr) anywhere) (sameAddr (e .«via_router») via) installed-route .1)
 
 -- so if it is two routers' it is one router's, of one interface
-same-route : (i j : ℕ) (via by : Ipv6Addr) (e : Route) → isInstalled j by e ≡ true → isInstalled i via e ≡ true → (j ≡ i) × (by ≡ via)
+pub same-route : (i j : ℕ) (via by : Ipv6Addr) (e : Route) → isInstalled j by e ≡ true → isInstalled i via e ≡ true → (j ≡ i) × (by ≡ via)
 same-route i j via by e p q = (sym (installed-here j by e p) ∙ installed-here i via e q, sym (installed-via j by e p) ∙ installed-via i via e q)
 
 pub put-route-stands : (i j : ℕ) (via by : Ipv6Addr) (t : Instant) (es : List Route) → routeStands i via es ≡ true → routeStands i via (putRoute j by t es) ≡ true
@@ -302,19 +241,24 @@ module _ (v : ℕ) (via : Ipv6Addr) where
   unfolding leaveExpired
   leave-router now s h = all-with stays (s .routers) (kept (routerGone now) (routersOf s)) (all-kept stays (routerGone now) (routersOf s) h)
 
-  pub prefix-apart : (now : Instant) (s : Slaac) (o : PrefixInformation) → routersOf (processPrefix now s o) ≡ routersOf s
-  unfolding processPrefix addPrefix expirePrefix
-  prefix-apart now s o = go (isSkipped o) (ltb 0 (o .«valid_lifetime»))
-    where
-      go : (x y : Bool) → routersOf (cond {A = Slaac} x s (cond {A = Slaac} y (addPrefix s (prefixOf o now)) (expirePrefix s (cidrOf o) now))) ≡ routersOf s
-      go true y = refl
-      go false true = refl
-      go false false = refl
+-- what the options do leaves the routers
+option-routers : (now : Instant) (s : Slaac) (o : PrefixInformation) → routersOf (processPrefix now s o) ≡ routersOf s
+unfolding processPrefix addPrefix expirePrefix
+option-routers now s o = go (isSkipped o) (ltb 0 (o .«valid_lifetime»))
+  where
+    go : (x y : Bool) → routersOf (cond {A = Slaac} x s (cond {A = Slaac} y (addPrefix s (prefixOf o now)) (expirePrefix s (cidrOf o) now))) ≡ routersOf s
+    go true y = refl
+    go false true = refl
+    go false false = refl
+
+pub options-routers : (now : Instant) (os : List PrefixInformation) (s : Slaac) → routersOf (foldOver (processPrefix now) s os) ≡ routersOf s
+options-routers now [] s = refl
+options-routers now (o ∷ os) s = options-routers now os (processPrefix now s o) ∙ option-routers now s o
 
 -- The sync, before v
 
 -- an expired prefix forms another address
-outlasts : (v e : Expiry) (now : Instant) → Earlier v now → Reaches v e → isAfter e now ≡ false → ⊥
+pub outlasts : (v e : Expiry) (now : Instant) → Earlier v now → Reaches v e → isAfter e now ≡ false → ⊥
 outlasts v Forever now early long h = true≢false h
 outlasts (At v) (At e) now early long h = omega (arith, ltb-false (now .0) (e .0) h)
 outlasts Forever (At e) now early long h = long

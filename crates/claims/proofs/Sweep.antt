@@ -7,8 +7,8 @@ use mathlib.Core.Bool.{Bool, true, false, cond, _&&_}
 use mathlib.Core.List.{List, [], _∷_, map}
 use mathlib.Core.Path.{_≡_, refl, ap, _∙_}
 use native.Mathlib.Omega.{arith}
-use Rattle.claims.proofs.Base.{append-nil}
 use Rattle.claims.proofs.Events.{events-walk}
+use Rattle.claims.proofs.Lists.{append-nil}
 use Rattle.claims.proofs.Walk.{walk, visitState, visitStates, tellState, tellStates, walk-entries, walk-tells, walk-length}
 use Rattle.claims.specs.Watch.{later, reportsOf, dueAt, filled, gone, watchOf, watchSweep, told}
 use Rattle.neighbor.specs.NeighborRules.{Table, Key, isKey, entriesOf}
@@ -18,7 +18,7 @@ use Rattle.sweep.specs.SweepRules.{expireState, expire, expireAll, dueState, sp
 use Rattle.time.specs.declared.Instant.{Instant}
 use Rattle.wire.specs.declared.ethernet.HardwareAddress.{HardwareAddress}
 
-sweep-walk : (i : ℕ) (now : Instant) (t : Table) → sweepTable i now t ≡ walk (length t) i now (map (expire now) t)
+pub sweep-walk : (i : ℕ) (now : Instant) (t : Table) → sweepTable i now t ≡ walk (length t) i now (map (expire now) t)
 unfolding sweepTable expireAll
 sweep-walk i now t =
     events-walk (length t) (length t) i now [] (map (expire now) t) (omega (arith, length-map t (expire now))) (omega (arith, length-map t (expire now)))

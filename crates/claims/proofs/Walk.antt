@@ -7,7 +7,7 @@ use mathlib.Core.Bool.{Bool, true, false, cond, _&&_}
 use mathlib.Core.List.{List, [], _∷_, _++_}
 use mathlib.Core.Path.{_≡_, refl, ap, _∙_}
 use native.Mathlib.Omega.{arith}
-use Rattle.claims.proofs.Base.{length-lastFirst}
+use Rattle.claims.proofs.Lists.{length-lastFirst}
 use Rattle.claims.specs.Watch.{Report, retransmission, failure, reportsOf}
 use Rattle.neighbor.proofs.Keys.{and-true, sameKey-true, entries-lastFirst, tail-few}
 use Rattle.neighbor.specs.CacheCalls.{key}

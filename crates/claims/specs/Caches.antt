@@ -1,9 +1,9 @@
 -- Runs of the code's own calls on caches are runs on entries: the promise of each function that is given the cache, call by call. Assumes nothing.
 use Prim.Native.Nat.{ℕ, _≤_}
 use mathlib.Core.Path.{_≡_}
-use mathlib.Core.Bool.{Bool, false, cond}
-use mathlib.Core.List.{List, [], _∷_, map}
-use lib.ListN.{take, length}
+use mathlib.Core.Bool.{Bool, true, false, cond}
+use mathlib.Core.List.{List, [], _∷_}
+use lib.ListN.{length}
 use Rattle.time.specs.declared.Instant.{Instant}
 use Rattle.time.specs.declared.Clock.{Clock}
 use Rattle.wire.specs.declared.ipv6.Ipv6Addr.{Ipv6Addr}
@@ -21,6 +21,7 @@ use Rattle.neighbor.specs.NeighborRules.{Key}
 use Rattle.neighbor.specs.Distinct.{Distinct}
 use Rattle.neighbor.specs.CacheCalls.{key, empty, entries, LookedUp, GotBy, atIndex, RemovedTo, startTo, insertTo, fillTo, clearTo}
 use Rattle.wire.specs.Refusals.{ifaceCheck, timeCheck}
+use Rattle.wire.specs.declared.error.Refusal.{Refusal}
 use Rattle.wire.specs.declared.error.Check.{Check}
 use Rattle.wire.specs.declared.error.Check.the-variants.{Fine, Refused as Fails}
 use Rattle.wire.specs.Rfc2464.{isUnicastHardware}
@@ -35,14 +36,12 @@ use Rattle.autoconf.specs.declared.Advertised.{Advertised}
 use Rattle.autoconf.specs.declared.TurnedOff.{TurnedOff}
 use Rattle.autoconf.specs.OffRules.{TurnedOffTo}
 use Rattle.autoconf.specs.AdvertRules.{messageCheck, optionsIn, lastSource, AdvertisedTo}
-use Rattle.sweep.specs.declared.ProbeEvent.{ProbeEvent}
-use Rattle.sweep.specs.declared.EventSlot.{EventSlot}
 use Rattle.sweep.specs.declared.Events.{Events}
 use Rattle.sweep.specs.declared.Swept.{Swept}
-use Rattle.sweep.specs.SweepCalls.{SweptTo}
+use Rattle.sweep.specs.SweepCalls.{eventList, SweptTo}
 use Rattle.lent.specs.declared.Reported.{Reported}
 use Rattle.lent.specs.LentRules.{ReportedTo}
-use Rattle.claims.specs.Calls.{Call, lookup, start, fill, insert, get, at, remove, clear, sweep, advertise, turnOff, Heard, silence, address, next, Answer, refused, done, looked, got, swept, apart, answer, answers, tableAfter}
+use Rattle.claims.specs.Calls.{Call, lookup, start, fill, insert, get, at, remove, clear, sweep, advertise, turnOff, Heard, silence, address, next, Answer, refused, done, looked, got, swept, notOfTheCache, answer, answers, tableAfter}
 use Rattle.claims.specs.Watch.{gone, reportsAll, toldRun}
 
 -- the functions' answers
@@ -60,12 +59,6 @@ ofGot (Is n) = got (Is n)
 abbrev pub ofOutcome : Outcome → Answer
 ofOutcome (Refused why) = refused why
 ofOutcome Done = done
-
-abbrev pub eventOf : EventSlot → ProbeEvent
-eventOf s = s .event
-
-abbrev pub eventList : Events → List ProbeEvent
-eventList v = map eventOf (take (v .len) (v .slots))
 
 abbrev pub ofSweep : ℕ → Events → Outcome → Answer
 ofSweep i v (Refused why) = refused why
@@ -108,9 +101,9 @@ pub data Step : NeighborCache → Call → Answer → NeighborCache → Type 0 w
   removes : (c : NeighborCache) (i : ℕ) (a : Ipv6Addr) (r : Removed) → RemovedTo c i a r → Step c (remove (key i a)) (ofGot (r .taken)) (r .cache)
   clears : (c : NeighborCache) (i : ℕ) (r : Changed) → clearTo c i r → Step c (clear i) (ofOutcome (r .outcome)) (r .cache)
   advertises : (c : NeighborCache) (s : Slaac) (i : ℕ) (source : Ipv6Addr) (msg : List ℕ) (now : Instant) (r : Advertised) → AdvertisedTo s c i source msg now r
-      → Step c (advertise (key i source) now (heardIn s i source msg now)) apart (r .cache)
+      → Step c (advertise (key i source) now (heardIn s i source msg now)) notOfTheCache (r .cache)
   turns-off : (c : NeighborCache) (s : Slaac) (t : IfaceAddrs) (r : Routes) (q : PendingQueue) (i : ℕ) (x : TurnedOff) → TurnedOffTo s t r c q i x
-      → Step c (turnOff i (wentIn s t i)) apart (x .cache)
+      → Step c (turnOff i (wentIn s t i)) notOfTheCache (x .cache)
   sweeps : (c : NeighborCache) (k k' : Clock) (i : ℕ) (r : Reported) → ReportedTo c k i r k'
       → Step c (sweep i (k .now)) (ofSweep i (r .events) (r .outcome)) (r .cache)
   sweeps-at : (c : NeighborCache) (k : Clock) (i : ℕ) (r : Swept) → SweptTo c k i r → Step c (sweep i (k .now)) (ofSweep i (r .events) (r .outcome)) (r .cache)
@@ -131,3 +124,22 @@ pub record OnCaches : Type 0 where
   pub keys : (cs : List Call) (as′ : List Answer) (c : NeighborCache) → Run empty cs as′ c → Distinct (entries c) × (length (entries c) ≤ 16)
   -- what a run on caches that these calls made reports of a key is what the key's watch says
   pub reports : (k : Key) (cs : List Call) (as′ : List Answer) (c : NeighborCache) → Run empty cs as′ c → reportsAll k as′ ≡ toldRun k cs [] gone
+  -- "A refusal returns its number and changes nothing.", "With SLAAC off this call .. answer Off, .. and do nothing.": an
+  -- advertisement that is refused, for its call's time or interface or as a message, or that comes with SLAAC off, tells nothing of its sender
+  pub refused-tells : (s : Slaac) (i : ℕ) (source : Ipv6Addr) (msg : List ℕ) (now : Instant) (why : Refusal) → timeCheck now i ≡ Fails why
+      → heardIn s i source msg now ≡ silence
+  pub message-tells : (s : Slaac) (i : ℕ) (source : Ipv6Addr) (msg : List ℕ) (now : Instant) (why : Refusal) → messageCheck source msg ≡ Fails why
+      → heardIn s i source msg now ≡ silence
+  pub off-tells : (s : Slaac) (i : ℕ) (source : Ipv6Addr) (msg : List ℕ) (now : Instant) → s .on ≡ false → heardIn s i source msg now ≡ silence
+  -- "If a type 1 option occurred, the last one counts; if unicast, it fills the neighbour (interface, source).": an advertisement without one, or
+  -- whose last one's address is a group's, tells nothing of its sender; if it is unicast, then that address, where it is taken with SLAAC on
+  pub none-tells : (s : Slaac) (i : ℕ) (source : Ipv6Addr) (msg : List ℕ) (now : Instant) → lastSource (optionsIn msg) ≡ NoAddr
+      → heardIn s i source msg now ≡ silence
+  pub group-tells : (s : Slaac) (i : ℕ) (source : Ipv6Addr) (msg : List ℕ) (now : Instant) (h : HardwareAddress) → lastSource (optionsIn msg) ≡ IsAddr h
+      → isUnicastHardware h ≡ false → heardIn s i source msg now ≡ silence
+  pub unicast-tells : (s : Slaac) (i : ℕ) (source : Ipv6Addr) (msg : List ℕ) (now : Instant) (h : HardwareAddress) → timeCheck now i ≡ Fine
+      → s .on ≡ true → messageCheck source msg ≡ Fine → lastSource (optionsIn msg) ≡ IsAddr h → isUnicastHardware h ≡ true
+      → heardIn s i source msg now ≡ address h
+  -- and no address goes by a turning off that is refused, or where SLAAC is off
+  pub refused-keeps : (s : Slaac) (t : IfaceAddrs) (i : ℕ) (why : Refusal) → ifaceCheck i ≡ Fails why → wentIn s t i ≡ false
+  pub off-keeps : (s : Slaac) (t : IfaceAddrs) (i : ℕ) → s .on ≡ false → wentIn s t i ≡ false

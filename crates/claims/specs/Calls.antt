@@ -1,4 +1,5 @@
--- The public calls that return the neighbour cache: what each does to its entries, what it answers, and runs of calls. Assumes nothing.
+-- The library's calls that return the neighbour cache: what each does to its entries, what it answers, and runs of calls. What else returns one,
+-- the main loop and the event program, is made of these. Assumes nothing.
 -- A call that is not given the cache cannot change it: states are values.
 use Prim.Native.Nat.{ℕ}
 use mathlib.Core.Bool.{Bool, true, false, cond}
@@ -71,25 +72,25 @@ abbrev pub reachable : HardwareAddress → Instant → State
 reachable h now = lasting h now
 
 -- what a call does if it is taken
-abbrev pub meant : Call → Effect
-meant (lookup k) = nothing
-meant (start k) = puts k Started
-meant (fill k h now) = puts k (reachable h now)
-meant (insert k h expires) = puts k (Reachable h expires)
-meant (get k) = nothing
-meant (at n) = nothing
-meant (remove k) = removes k
-meant (clear i) = clears i
-meant (sweep i now) = sweeps i now
-meant (advertise k now silence) = nothing
-meant (advertise k now (address h)) = puts k (reachable h now)
-meant (turnOff i false) = nothing
-meant (turnOff i true) = clears i
+abbrev pub ifTaken : Call → Effect
+ifTaken (lookup k) = nothing
+ifTaken (start k) = puts k Started
+ifTaken (fill k h now) = puts k (reachable h now)
+ifTaken (insert k h expires) = puts k (Reachable h expires)
+ifTaken (get k) = nothing
+ifTaken (at n) = nothing
+ifTaken (remove k) = removes k
+ifTaken (clear i) = clears i
+ifTaken (sweep i now) = sweeps i now
+ifTaken (advertise k now silence) = nothing
+ifTaken (advertise k now (address h)) = puts k (reachable h now)
+ifTaken (turnOff i false) = nothing
+ifTaken (turnOff i true) = clears i
 
 -- "A refusal returns its number and changes nothing." "a refused sweep is none"
 abbrev pub effectBy : Check → Call → Effect
 effectBy (Fails why) c = nothing
-effectBy Fine c = meant c
+effectBy Fine c = ifTaken c
 
 abbrev pub effect : Call → Effect
 effect c = effectBy (check c) c
@@ -115,7 +116,7 @@ pub data Answer : Type 0 where
   looked : Found → Answer
   got : Got → Answer
   swept : ℕ → List ProbeEvent → Answer
-  apart : Answer
+  notOfTheCache : Answer
 
 abbrev pub reply : Call → Table → Answer
 reply (lookup k) t = looked (firstOf (isKey k) answerIn NotFound t)
@@ -127,8 +128,8 @@ reply (at n) t = got (cond (ltb n (length t)) (shown (getD t n blank)) Nothing)
 reply (remove k) t = got (cond (ltb (find k t) (length t)) (shown (getD t (find k t) blank)) Nothing)
 reply (clear i) t = done
 reply (sweep i now) t = swept i (sweepTable i now t .events)
-reply (advertise k now heard) t = apart
-reply (turnOff i went) t = apart
+reply (advertise k now heard) t = notOfTheCache
+reply (turnOff i went) t = notOfTheCache
 
 abbrev pub answerBy : Check → Call → Table → Answer
 answerBy (Fails why) c t = refused why

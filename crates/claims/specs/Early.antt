@@ -1,4 +1,4 @@
--- "An address gone early": no SLAAC address and no default route leaves before its time. Assumes nothing.
+-- "an address gone early": no SLAAC address and no default route leaves before its time. Assumes nothing.
 use Prim.Native.Nat.{ℕ, _≤_, _<_}
 use mathlib.Core.Path.{_≡_}
 use mathlib.Core.Bool.{Bool, true, false}
@@ -14,6 +14,8 @@ use Rattle.wire.specs.declared.ipv6.Ipv6Addr.{Ipv6Addr}
 use Rattle.wire.specs.declared.ipv6.Ipv6Cidr.{Ipv6Cidr}
 use Rattle.wire.specs.declared.ipv6.Formed.the-variants.{Addr}
 use Rattle.wire.specs.declared.ethernet.HardwareAddress.{HardwareAddress}
+use Rattle.wire.specs.declared.error.Check.the-variants.{Fine}
+use Rattle.wire.specs.Refusals.{timeCheck}
 use Rattle.wire.specs.Rfc2464.{formedOf}
 use Rattle.wire.specs.Rfc4291.{sameAddr}
 use Rattle.ndisc.specs.declared.ndiscoption.PrefixInformation.{PrefixInformation}
@@ -38,15 +40,11 @@ use Rattle.autoconf.specs.declared.Advertised.{Advertised}
 use Rattle.autoconf.specs.declared.Polled.{Polled}
 use Rattle.autoconf.specs.declared.PolledAt.{PolledAt}
 use Rattle.autoconf.specs.declared.TurnedOff.{TurnedOff}
-use Rattle.autoconf.specs.AdvertRules.{optionsIn, prefixOptions, AdvertisedTo}
+use Rattle.autoconf.specs.AdvertRules.{messageCheck, optionsIn, prefixOptions, AdvertisedTo}
 use Rattle.autoconf.specs.PollRules.{PolledTo}
 use Rattle.autoconf.specs.OffRules.{TurnedOffTo}
 use Rattle.lent.specs.LentRules.{PolledBy}
-
--- each entry is so
-abbrev pub All : {A : Type 0} → (A → Type 0) → List A → Type 0
-All P [] = Unit {0}
-All P (x ∷ xs) = P x × All P xs
+use Rattle.claims.specs.Lists.{All}
 
 -- Calls, as one interface sees them
 
@@ -114,6 +112,13 @@ Before early spares turnOff = ⊥
 Before early spares pollElsewhere = Unit {0}
 Before early spares offElsewhere = Unit {0}
 
+-- a poll on interface i is taken: neither its time nor the interface is refused; an advertisement, if its message is not refused either
+abbrev pub TakesPoll : ℕ → Instant → Type 0
+TakesPoll i now = timeCheck now i ≡ Fine
+
+abbrev pub Takes : ℕ → Ipv6Addr → List ℕ → Instant → Type 0
+Takes i source msg now = (timeCheck now i ≡ Fine) × (messageCheck source msg ≡ Fine)
+
 -- Addresses
 
 -- the entry of that address and length is there, and SLAAC's
@@ -139,15 +144,22 @@ LastsTo v hw a p = formedOf hw (p .cidr) ≡ Addr a → Reaches v (p .«valid_un
 abbrev pub Spares : Expiry → HardwareAddress → Ipv6Cidr → Instant → PrefixInformation → Type 0
 Spares v hw a now o = isSkipped o ≡ false → LastsTo v hw a (prefixOf o now)
 
--- the advertisement's prefixes spare the address; or, without times, none of them forms it
-abbrev pub Harmless : Expiry → HardwareAddress → Ipv6Cidr → HostCall → Type 0
-Harmless v hw a c = Before (Earlier v) (λ source msg now. All (Spares v hw a now) (prefixOptions (optionsIn msg))) c
+-- a call of interface i: a poll that is taken is before v, and the prefixes of an advertisement that is taken spare the address; or, without
+-- times, none of them forms it
+abbrev pub Harmless : ℕ → Expiry → HardwareAddress → Ipv6Cidr → HostCall → Type 0
+Harmless i v hw a c =
+    Before (λ now. TakesPoll i now → Earlier v now)
+    (λ source msg now. Takes i source msg now → All (Spares v hw a now) (prefixOptions (optionsIn msg)))
+    c
 
 abbrev pub Names : HardwareAddress → Ipv6Cidr → PrefixInformation → Type 0
 Names hw a o = (isSkipped o ≡ false) × (formedOf hw (cidrOf o) ≡ Addr a)
 
-abbrev pub Silent : Expiry → HardwareAddress → Ipv6Cidr → HostCall → Type 0
-Silent v hw a c = Before (Earlier v) (λ source msg now. All (λ o. Names hw a o → ⊥) (prefixOptions (optionsIn msg))) c
+abbrev pub Silent : ℕ → Expiry → HardwareAddress → Ipv6Cidr → HostCall → Type 0
+Silent i v hw a c =
+    Before (λ now. TakesPoll i now → Earlier v now)
+    (λ source msg now. Takes i source msg now → All (λ o. Names hw a o → ⊥) (prefixOptions (optionsIn msg)))
+    c
 
 -- Routes
 
@@ -163,34 +175,37 @@ RouterLastsTo v via r = sameAddr (r .addr) via ≡ true → v ≤ r .«valid_unt
 abbrev pub RouterSpares : ℕ → Ipv6Addr → Instant → Ipv6Addr → Duration → Type 0
 RouterSpares v via now source lifetime = sameAddr source via ≡ true → v ≤ addOf now lifetime .0
 
-abbrev pub HarmlessTo : ℕ → Ipv6Addr → HostCall → Type 0
-HarmlessTo v via c = Before (λ now. now .0 < v) (λ source msg now. RouterSpares v via now source (secondsOf (routerAdvertAt msg .«router_lifetime»))) c
+abbrev pub HarmlessTo : ℕ → ℕ → Ipv6Addr → HostCall → Type 0
+HarmlessTo i v via c =
+    Before (λ now. TakesPoll i now → now .0 < v)
+    (λ source msg now. Takes i source msg now → RouterSpares v via now source (secondsOf (routerAdvertAt msg .«router_lifetime»)))
+    c
 
 -- or, without times, it is another router's
-abbrev pub SilentTo : ℕ → Ipv6Addr → HostCall → Type 0
-SilentTo v via c = Before (λ now. now .0 < v) (λ source msg now. sameAddr source via ≡ false) c
+abbrev pub SilentTo : ℕ → ℕ → Ipv6Addr → HostCall → Type 0
+SilentTo i v via c = Before (λ now. TakesPoll i now → now .0 < v) (λ source msg now. Takes i source msg now → sameAddr source via ≡ false) c
 
 -- The claim
 
 pub record NotEarly : Type 0 where
-  -- A SLAAC address stands, and every prefix of the table that forms it is valid until v or longer. Whatever advertisements come that do not
-  -- say otherwise of such a prefix, whatever the application adds and however often discovery restarts: short of
-  -- turning SLAAC off there, before a poll at v or later it stands. Where v is forever, no poll takes it.
+  -- A SLAAC address stands, and every prefix of the table that forms it is valid until v or longer. Whatever advertisements are taken that
+  -- do not say otherwise of such a prefix, whatever else comes and is refused, whatever the application adds and however often discovery
+  -- restarts: short of turning SLAAC off there, before a poll at v or later is taken it stands. Where v is forever, no poll takes it.
   pub address : (i : ℕ) (hw : HardwareAddress) (a : Ipv6Cidr) (v : Expiry) (x y : Host) (cs : List HostCall) → Run i hw x cs y
-      → stands a (addrsOf (x .addrs)) ≡ true → All (LastsTo v hw a) (prefixesOf (x .slaac)) → All (Harmless v hw a) cs
+      → stands a (addrsOf (x .addrs)) ≡ true → All (LastsTo v hw a) (prefixesOf (x .slaac)) → All (Harmless i v hw a) cs
       → stands a (addrsOf (y .addrs)) ≡ true
-  -- The same for one prefix: it is the only one of the table that forms the address, and no advertisement names it or another that does.
+  -- The same for one prefix: it is the only one of the table that forms the address, and no advertisement that is taken names it or another that does.
   pub address-of : (i : ℕ) (hw : HardwareAddress) (a : Ipv6Cidr) (p : Prefix) (x y : Host) (cs : List HostCall) → Run i hw x cs y
       → stands a (addrsOf (x .addrs)) ≡ true → All (λ q. formedOf hw (q .cidr) ≡ Addr a → q ≡ p) (prefixesOf (x .slaac))
-      → All (Silent (p .«valid_until») hw a) cs
+      → All (Silent i (p .«valid_until») hw a) cs
       → stands a (addrsOf (y .addrs)) ≡ true
   -- A router's default route stands, and the router's entry lasts until v or longer. Whatever other routers advertise, other interfaces
-  -- do and the application adds: before a poll at v or later it stands.
+  -- do and the application adds: before a poll at v or later is taken it stands.
   pub route : (i : ℕ) (hw : HardwareAddress) (via : Ipv6Addr) (v : ℕ) (x y : Host) (cs : List HostCall) → Run i hw x cs y
-      → routeStands i via (routesOf (x .routes)) ≡ true → All (RouterLastsTo v via) (routersOf (x .slaac)) → All (HarmlessTo v via) cs
+      → routeStands i via (routesOf (x .routes)) ≡ true → All (RouterLastsTo v via) (routersOf (x .slaac)) → All (HarmlessTo i v via) cs
       → routeStands i via (routesOf (y .routes)) ≡ true
-  -- The same for one router: it is the only entry of that address, and no advertisement is its own.
+  -- The same for one router: it is the only entry of that address, and no advertisement that is taken is its own.
   pub route-of : (i : ℕ) (hw : HardwareAddress) (p : Router) (x y : Host) (cs : List HostCall) → Run i hw x cs y
       → routeStands i (p .addr) (routesOf (x .routes)) ≡ true → All (λ q. sameAddr (q .addr) (p .addr) ≡ true → q ≡ p) (routersOf (x .slaac))
-      → All (SilentTo (p .«valid_until» .0) (p .addr)) cs
+      → All (SilentTo i (p .«valid_until» .0) (p .addr)) cs
       → routeStands i (p .addr) (routesOf (y .routes)) ≡ true

@@ -1,4 +1,4 @@
--- "No address gone early" at work, and no later either: the state in which document 01's event file ends, polled again. Assumes nothing.
+-- No address gone early, at work, and none later either: the state in which document 01's event file ends, polled again. Assumes nothing.
 use Prim.Native.Nat.{ℕ}
 use mathlib.Core.Path.{_≡_}
 use mathlib.Core.Bool.{true, false}
@@ -7,8 +7,9 @@ use Rattle.iface.specs.AddressRules.{addrsOf}
 use Rattle.iface.specs.RouteRules.{routesOf}
 use Rattle.slaac.specs.LearnedRules.{prefixesOf, routersOf}
 use Rattle.autoconf.specs.declared.Polled.{Polled}
+use Rattle.claims.specs.Lists.{All}
 use Rattle.claims.specs.Traces.{ms}
-use Rattle.claims.specs.Early.{All, stands, LastsTo, routeStands, RouterLastsTo}
+use Rattle.claims.specs.Early.{stands, LastsTo, routeStands, RouterLastsTo}
 use Rattle.claims.specs.Examples.{mac, router, formed, polls, end}
 
 abbrev pub polledAgain : ℕ → Polled

@@ -10,7 +10,7 @@ use Rattle.neighbor.specs.NeighborRules.{Table, Key, sameKey, entriesOf}
 use Rattle.neighbor.specs.CacheCalls.{key}
 use Rattle.sweep.specs.declared.ProbeEvent.{ProbeEvent}
 use Rattle.sweep.specs.declared.ProbeEvent.the-variants.{Retransmit, Failed}
-use Rattle.claims.specs.Calls.{Call, Effect, nothing, puts, removes, clears, sweeps, effect, next, Answer, refused, done, looked, got, swept, apart}
+use Rattle.claims.specs.Calls.{Call, Effect, nothing, puts, removes, clears, sweeps, effect, next, Answer, refused, done, looked, got, swept, notOfTheCache}
 
 -- so many milliseconds later
 abbrev pub later : Instant → ℕ → Instant
@@ -37,7 +37,7 @@ reportsIn k done = []
 reportsIn k (looked f) = []
 reportsIn k (got g) = []
 reportsIn k (swept i vs) = reportsOf k i vs
-reportsIn k apart = []
+reportsIn k notOfTheCache = []
 
 abbrev pub reportsAll : Key → List Answer → List (List Report)
 reportsAll k [] = []
