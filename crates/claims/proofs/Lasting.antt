@@ -21,6 +21,7 @@ lasting = record {
   long = (λ f. omega arith, tt);
   before = refl;
   gone = refl;
+  own-stays = refl;
   route-there = refl;
   route-long = (λ f. omega arith, tt);
   route-before = refl;

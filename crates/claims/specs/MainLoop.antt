@@ -5,7 +5,7 @@ use Rattle.mainloop.specs.Story.{Story}
 use Rattle.claims.specs.Sleep.{Sleep}
 
 pub record MainLoop : Type 0 where
-  -- It may sleep until the time that a turn tells: that time is exact, and before it a turn finds nothing to do.
+  -- It may sleep until the time that a turn tells: that time is exact, and before it a turn by the timer finds nothing to do.
   pub sleep : Sleep
   -- No packet is lost in a turn, and none comes out twice.
   pub accounts : Accounts

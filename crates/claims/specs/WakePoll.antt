@@ -68,7 +68,7 @@ slaacTimes source s =
     retryFrom source (s .discovery)
     ++ (endsOf (λ (x : Prefix). x .«valid_until») (prefixesOf s) ++ endsOf (λ (x : Router). EndsAt (x .«valid_until»)) (routersOf s))
 
--- polls one after the other on one clock, of any interfaces on which SLAAC is on, and the times that SLAAC then waits for on them
+-- polls one after the other on one clock, of any interfaces on which SLAAC is on, each polled once, and the times that SLAAC then waits for on them
 pub data Polls : Clock → List Instant → Clock → Type 0 where
   none : (k : Clock) → Polls k [] k
   one-more : {i : ℕ} {up : Bool} {hw : HardwareAddress} {s : Slaac} {t : IfaceAddrs} {r : Routes} {buf : List ℕ} {k : Clock} {p : Polled} {buf' : List ℕ} {k' k'' : Clock} {times : List Instant}
@@ -102,7 +102,7 @@ pub record WakePoll : Type 0 where
       → Poll i up2 hw2 (p .slaac) t2 r2 buf2 next q buf2' next' → timeCheck (next .now) i ≡ Fine
       → senderIn up2 t2 ≡ senderIn up t → Asleep (k' .deadline) (next .now)
       → (q ≡ quietly (p .slaac) t2 r2) × (buf2' ≡ buf2)
-  -- A card's turn on one clock: polls, and then a round of sweeps. The deadline is exactly the earliest time that is waited for on any interface;
+  -- A card's turn on one clock: polls, and then a round of sweeps. The deadline is exactly the earliest time that is waited for after them;
   pub turn : (k k' k'' : Clock) (times : List Instant) → Polls k times k' → (c d : NeighborCache) (is : List ℕ) (j : ℕ) → Round c k' is j d k''
       → IsEarliest (k'' .deadline) (already (k .deadline) ++ (times ++ timesOf (entries d)))
   -- on a new clock it is after now, or there is none;
