@@ -70,7 +70,7 @@ missing l w n p q = rw (p, q) refl
 -- what is none of a match's other arms
 pub no-line : (l : Line) → (tagOf Line′.the-type l ≡ 1) ⊎ ((tagOf Line′.the-type l ≡ 2) ⊎ (tagOf Line′.the-type l ≡ 3)) → NoLine l
 no-line End h = tt
-no-line Long h = tt
+no-line (Long left) h = tt
 no-line Error h = tt
 no-line (At from to left) (inl z) = absurd (omega arith)
 no-line (At from to left) (inr (inl z)) = absurd (omega arith)
@@ -225,13 +225,13 @@ long-step : (w : Want) (x : Card) (line : List ℕ) → 4096 < length line → (
 unfolding stepOf saidIn
 long-step w x line h = rw (lt-ltb 4096 (length line) h) (refl, refl)
 
-pub long-line : (n : ℕ) (w : Want) (x : Card) (line : List ℕ) (lines : List (List ℕ)) → 4096 < length line
-    → outputFrom Long n w x lines ≡ outputFrom End n w x (lines ++ (line ∷ []))
+pub long-line : (left : Reader) (n : ℕ) (w : Want) (x : Card) (line : List ℕ) (lines : List (List ℕ)) → 4096 < length line
+    → outputFrom (Long left) n w x lines ≡ outputFrom End n w x (lines ++ (line ∷ []))
 unfolding outputFrom
-long-line n w x line [] h = let s = long-step w x line h in rw (s .0, s .1) refl
-long-line n w x line (first ∷ lines) h =
+long-line left n w x line [] h = let s = long-step w x line h in rw (s .0, s .1) refl
+long-line left n w x line (first ∷ lines) h =
     ap (λ (rest : List ℕ). stepOf w x first .text ++ cond (failed (stepOf w x first .want)) (badLine n) rest)
-    (long-line (wrapped (n + 1)) (stepOf w x first .want) (stepOf w x first .card) line lines h)
+    (long-line left (wrapped (n + 1)) (stepOf w x first .want) (stepOf w x first .card) line lines h)
 
 pub record Under (buf₀ : List ℕ) (sink₀ : Sink) (buf : List ℕ) (r : Reader) (run : Progress) (out : List ℕ) : Type 0 where
   pub lines : List (List ℕ)

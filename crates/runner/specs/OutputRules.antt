@@ -39,7 +39,7 @@ complete Failed = false
 -- "A bad line N (from 1; also one missing, surplus, above 4,096 bytes or refused by the address table)"
 abbrev pub endOf : Line → Want → ℕ → Ended
 endOf End w n = cond (complete w) Listed (BadLine n)
-endOf Long w n = BadLine n
+endOf (Long left) w n = BadLine n
 endOf Error w n = NotRead
 endOf (At from to left) w n = NotWritten
 

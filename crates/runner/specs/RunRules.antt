@@ -91,7 +91,7 @@ pub data Came (buf : List ℕ) : List (List ℕ) → List ℕ → Reader → Typ
 abbrev pub NoLine : Line → Type 0
 NoLine (At from to left) = ⊥
 NoLine End = Unit {0}
-NoLine Long = Unit {0}
+NoLine (Long left) = Unit {0}
 NoLine Error = Unit {0}
 
 -- and the reader's last answer: it has no line, or no more is read after one, which is then bad (`endOf`)

@@ -157,7 +157,7 @@ fn end_of(line: Line, want: Want, number: u64) -> Ended
                 Ended::BadLine(number)
             }
         }
-        Line::Long => Ended::BadLine(number),
+        Line::Long(_) => Ended::BadLine(number),
         Line::Error => Ended::NotRead,
         Line::At(_, _, _) => Ended::NotWritten,
     }

@@ -24,6 +24,7 @@ use Rattle.streams.specs.declared.reader.More.{More}
 use Rattle.streams.specs.declared.reader.Reader.{Reader}
 use Rattle.streams.specs.declared.reader.Taken.the-variants.{Line as Whole, Last, Nothing, TooLong, Part}
 use Rattle.streams.specs.declared.reader.Taken.{Taken}
+use Rattle.text.proofs.FieldLaws.{before}
 use Rattle.text.specs.Fields.{indexOf}
 
 -- ---- moving to the front
@@ -77,7 +78,7 @@ not-false true p = refl
 not-false false p = sym p
 
 module _ (ended : Bool) (buf : List ℕ) (r : Reader) (len : ℕ) (is : len ≡ indexOf 10 (inHand buf r)) where
-  pub too-long : 4096 < len → TooLong ≡ takeLine ended buf r
+  pub too-long : 4096 < len → TooLong r ≡ takeLine ended buf r
   unfolding takeLine
   too-long h = rw (← is, lt-ltb _ _ h) refl
 
@@ -104,7 +105,7 @@ no-part false from to left p = let z : _≡_ {A = ℕ} 0 1 = cc in omega arith
 part-by : (ended : Bool) (r : Reader) (len : ℕ) (t u v : Bool) → ltb 4096 len ≡ t → ltb (r .start + len) (r .end) ≡ u → ended ≡ v
     → takeBy ended r len ≡ Part → (len ≤ 4096) × (r .end ≤ r .start + len) × (ended ≡ false)
 part-by ended r len true u v a b e p =
-    let w : _≡_ {A = Taken} TooLong Part = rw a at p in absurd (let z : _≡_ {A = ℕ} 0 1 = cc in omega arith)
+    let w : _≡_ {A = Taken} (TooLong r) Part = rw a at p in absurd (let z : _≡_ {A = ℕ} 0 1 = cc in omega arith)
 part-by ended r len false true v a b e p =
     let w : _≡_ {A = Taken} (Whole (r .start) (r .start + len) (reader (r .start + len + 1) (r .end))) Part = rw (a, b) at p in
     absurd (let z : _≡_ {A = ℕ} 0 1 = cc in omega arith)
@@ -264,7 +265,7 @@ module _ (buf : List ℕ) (r : Reader) (f : Fits buf r) (from to : ℕ) (left : 
   held-by : (ended : Bool) (len : ℕ) (l : Line) (t u v z : Bool) → ltb 4096 len ≡ t → ltb (r .start + len) (r .end) ≡ u → ended ≡ v → eqb len 0 ≡ z
       → Answers (takeBy ended r len) l → l ≡ At from to left → Held buf from to left
   held-by ended len l true u v z a b e d w q =
-      let x : l ≡ Long = rw a at w in absurd (let y : _≡_ {A = ℕ} 0 1 = cc in omega arith)
+      let x : l ≡ Long r = rw a at w in absurd (let y : _≡_ {A = ℕ} 0 1 = cc in omega arith)
   held-by ended len l false true v z a b e d w q =
       let x : l ≡ At (r .start) (r .start + len) (reader (r .start + len + 1) (r .end)) = rw (a, b) at w in
       let i : from ≡ r .start = cc in
@@ -297,3 +298,49 @@ held {ended} {buf} {r} {l} from to left (answers a) f q = held-first buf r f fro
 held {ended} {buf} {r} from to left (reads-on p w c) f q = held from to left c (fits-read ended buf r p f w .1) q
 held {ended} {buf} {r} from to left (ends p w c) f q = held from to left c (fits-end ended buf r p f w) q
 held from to left (fails p w) f q = absurd (let y : _≡_ {A = ℕ} 0 1 = cc in omega arith)
+
+-- ---- a line that is too long
+
+high-by : (n m : ℕ) (t : Bool) → n ≤ m → cond t 0 (suc n) ≤ suc m
+high-by n m true h = omega arith
+high-by n m false h = omega arith
+
+index-high : (b : ℕ) (s : List ℕ) → indexOf b s ≤ length s
+index-high b [] = omega arith
+index-high b (x ∷ s) = high-by (indexOf b s) (length s) (eqb x b) (index-high b s)
+
+-- what is in hand fits, and is more than 4,096 bytes: the line's beginning, since none of the first 4,097 is a newline
+pub record HeldLong (buf : List ℕ) (left : Reader) : Type 0 where
+  pub fits : Fits buf left
+  pub long : 4096 < count left
+  pub unbroken : (k : ℕ) → k ≤ 4096 → getD (inHand buf left) k 0 ≡ 10 → ⊥
+
+module _ (buf : List ℕ) (r : Reader) (f : Fits buf r) (left : Reader) where
+  long-by : (ended : Bool) (len : ℕ) (l : Line) (t u v z : Bool) → ltb 4096 len ≡ t → ltb (r .start + len) (r .end) ≡ u → ended ≡ v → eqb len 0 ≡ z
+      → Answers (takeBy ended r len) l → l ≡ Long left → (left ≡ r) × (4096 < len)
+  long-by ended len l true u v z a b e d w q = let x : l ≡ Long r = rw a at w in (cc, ltb-true 4096 len a)
+  long-by ended len l false true v z a b e d w q =
+      let x : l ≡ At (r .start) (r .start + len) (reader (r .start + len + 1) (r .end)) = rw (a, b) at w in
+      absurd (let y : _≡_ {A = ℕ} 0 1 = cc in omega arith)
+  long-by ended len l false false true true a b e d w q =
+      let x : l ≡ End = rw (a, b, e, d) at w in absurd (let y : _≡_ {A = ℕ} 0 1 = cc in omega arith)
+  long-by ended len l false false true false a b e d w q =
+      let x : l ≡ At (r .start) (r .end) (reader (r .end) (r .end)) = rw (a, b, e, d) at w in
+      absurd (let y : _≡_ {A = ℕ} 0 1 = cc in omega arith)
+  long-by ended len l false false false z a b e d w q = absurd (rw (a, b, e) at w)
+
+  long-first : (ended : Bool) (l : Line) → Answers (takeLine ended buf r) l → l ≡ Long left → HeldLong buf left
+  unfolding takeLine
+  long-first ended l w q =
+      let n = indexOf 10 (inHand buf r) in
+      let p = long-by ended n l (ltb 4096 n) (ltb (r .start + n) (r .end)) ended (eqb n 0) refl refl refl refl w q in
+      let h = index-high 10 (inHand buf r) in
+      let c = length-take-le (count r) (drop (r .start) buf) (rw length-drop (omega (arith, f .1))) in
+      rw (p .0) (record { fits = f; long = omega (arith, p .1); unbroken = λ k i. before 10 (inHand buf r) k (omega (arith, p .1)) })
+
+pub held-long : {ended : Bool} {buf : List ℕ} {r : Reader} {l : Line} {buf' : List ℕ} (left : Reader) → Course ended buf r l buf'
+    → Fits buf r → l ≡ Long left → HeldLong buf' left
+held-long {ended} {buf} {r} {l} left (answers a) f q = long-first buf r f left ended l a q
+held-long {ended} {buf} {r} left (reads-on p w c) f q = held-long left c (fits-read ended buf r p f w .1) q
+held-long {ended} {buf} {r} left (ends p w c) f q = held-long left c (fits-end ended buf r p f w) q
+held-long left (fails p w) f q = absurd (let y : _≡_ {A = ℕ} 0 1 = cc in omega arith)

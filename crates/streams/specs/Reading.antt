@@ -40,7 +40,7 @@ Fits buf r = (r .start ≤ r .end) × (r .end ≤ length buf) × (4096 < length 
 -- len bytes stand before the first newline in hand, or in all
 abbrev pub takeBy : Bool → Reader → ℕ → Taken
 takeBy ended r len =
-    cond (ltb 4096 len) TooLong
+    cond (ltb 4096 len) (TooLong r)
     (cond (ltb (r .start + len) (r .end)) (Whole (r .start) (r .start + len) (reader (r .start + len + 1) (r .end)))
     (cond ended (cond (eqb len 0) Nothing (Last (r .start) (r .end) (reader (r .end) (r .end))))
     Part))
@@ -82,7 +82,7 @@ abbrev pub Answers : Taken → Line → Type 0
 Answers (Whole from to left) l = l ≡ At from to left
 Answers (Last from to left) l = l ≡ At from to left
 Answers Nothing l = l ≡ End
-Answers TooLong l = l ≡ Long
+Answers (TooLong left) l = l ≡ Long left
 Answers Part l = ⊥
 
 -- The course of the reads. What is in hand answers, and the buffer is as it is; or it is a part of a line, and a read follows: it brings

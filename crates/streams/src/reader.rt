@@ -6,7 +6,7 @@ ghost use Rattle.streams.specs.Reading.{takeLine, moved, moreOf, Within,
 use text::scan::find;
 
 // A line's most bytes, its newline not among them.
-const LONGEST: usize = 4096;
+pub const LONGEST: usize = 4096;
 
 // What of the buffer is read and not yet used: from start up to end.
 pub struct Reader {
@@ -19,8 +19,8 @@ pub enum Line {
     At(usize, usize, Reader),
     // no line is left
     End,
-    // above 4,096 bytes
-    Long,
+    // above 4,096 bytes; then what is in hand, the line's beginning first: none of the first 4,097 bytes is a newline
+    Long(Reader),
     // a read failed, or the reader and the buffer do not fit
     Error,
 }
@@ -33,8 +33,8 @@ pub enum Taken {
     Last(usize, usize, Reader),
     // nothing, and nothing is to come
     Nothing,
-    // more than 4,096 bytes without a newline
-    TooLong,
+    // more than 4,096 bytes without a newline; then what is in hand, all of it
+    TooLong(Reader),
     // a part of a line, of which more is to come
     Part,
 }
@@ -55,7 +55,7 @@ fn take_line(buf: &[u8], reader: Reader, ended: bool) -> Taken
     let end = reader.end;
     let len = find(&buf[start..end], b'\n');
     if len > LONGEST {
-        return Taken::TooLong;
+        return Taken::TooLong(reader);
     }
     let to = start + len;
     if to < end {
@@ -131,7 +131,7 @@ fn line_from(fd: i32, buf: &mut [u8], first: Reader) -> Line
             Taken::Line(from, to, left) => return Line::At(from, to, left),
             Taken::Last(from, to, left) => return Line::At(from, to, left),
             Taken::Nothing => return Line::End,
-            Taken::TooLong => return Line::Long,
+            Taken::TooLong(left) => return Line::Long(left),
             Taken::Part => {}
         }
         let in_hand = reader.end - reader.start;

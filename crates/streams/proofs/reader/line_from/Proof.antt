@@ -44,17 +44,17 @@ same-length-3 c = search needs
 returns-3 : tie.Need-returns-3 Inv-loop μ-loop
 returns-3 c = next (c .before .before .before .before .loop .inv) (sym (c .enum-told .given .1) ∙ c .before .before .take-line .ensures) refl
 
-enum-told-2 : tie.Need-enum-told-2 Inv-loop μ-loop
-enum-told-2 c = search needs
+enum-known-left : tie.Need-enum-known-left Inv-loop μ-loop
+enum-known-left c = search needs
 
 same-length-4 : tie.Need-same-length-4 Inv-loop μ-loop
 same-length-4 c = search needs
 
 returns-4 : tie.Need-returns-4 Inv-loop μ-loop
-returns-4 c = next (c .before .before .before .before .loop .inv) (sym (c .enum-told2 .given .1) ∙ c .before .before .take-line .ensures) refl
+returns-4 c = next (c .before .before .before .before .before .loop .inv) (sym (c .before .left .given .1) ∙ c .before .before .before .take-line .ensures) refl
 
-enum-told-3 : tie.Need-enum-told-3 Inv-loop μ-loop
-enum-told-3 c = search needs
+enum-told-2 : tie.Need-enum-told-2 Inv-loop μ-loop
+enum-told-2 c = search needs
 
 sub-in-hand : tie.Need-sub-in-hand Inv-loop μ-loop
 sub-in-hand c = omega (arith, c .before .before .before .before .before .loop .inv .fits .0)
@@ -62,32 +62,32 @@ sub-in-hand c = omega (arith, c .before .before .before .before .before .loop .i
 refill-requires : tie.Need-refill-requires Inv-loop μ-loop
 refill-requires c κs = c .before .before .before .before .before .before .loop .inv .fits
 
-enum-told-4 : tie.Need-enum-told-4 Inv-loop μ-loop
-enum-told-4 c = search needs
+enum-told-3 : tie.Need-enum-told-3 Inv-loop μ-loop
+enum-told-3 c = search needs
 
 same-length-5 : tie.Need-same-length-5 Inv-loop μ-loop
 same-length-5 c = search needs
 
 returns-5 : tie.Need-returns-5 Inv-loop μ-loop
-returns-5 c = failed (c .before .before .before .before .before .before .before .before .before .before .before .loop .inv) (sym (c .before .before .before .before .before .before .before .before .before .take-line .ensures) ∙ c .before .before .before .before .before .before .before .enum-told3 .given .1) (refilling (c .enum-told4 .given .1) (c .before .before .before .before .refill .ensures))
+returns-5 c = failed (c .before .before .before .before .before .before .before .before .before .before .before .loop .inv) (sym (c .before .before .before .before .before .before .before .before .before .take-line .ensures) ∙ c .before .before .before .before .before .before .before .enum-told2 .given .1) (refilling (c .enum-told3 .given .1) (c .before .before .before .before .refill .ensures))
 
-enum-told-5 : tie.Need-enum-told-5 Inv-loop μ-loop
-enum-told-5 c = search needs
+enum-told-4 : tie.Need-enum-told-4 Inv-loop μ-loop
+enum-told-4 c = search needs
 
 loop-less : tie.Need-loop-less Inv-loop μ-loop
-loop-less c = fewer-end (c .before .before .before .before .before .before .before .before .before .before .before .loop .inv) (sym (c .before .before .before .before .before .before .before .before .before .take-line .ensures) ∙ c .before .before .before .before .before .before .before .enum-told3 .given .1)
+loop-less c = fewer-end (c .before .before .before .before .before .before .before .before .before .before .before .loop .inv) (sym (c .before .before .before .before .before .before .before .before .before .take-line .ensures) ∙ c .before .before .before .before .before .before .before .enum-told2 .given .1)
 
 loop-again : tie.Need-loop-again Inv-loop μ-loop
-loop-again c = on-end (c .before .before .before .before .before .before .before .before .before .before .before .loop .inv) (sym (c .before .before .before .before .before .before .before .before .before .take-line .ensures) ∙ c .before .before .before .before .before .before .before .enum-told3 .given .1) (refilling (c .enum-told5 .given .1) (c .before .before .before .before .refill .ensures))
+loop-again c = on-end (c .before .before .before .before .before .before .before .before .before .before .before .loop .inv) (sym (c .before .before .before .before .before .before .before .before .before .take-line .ensures) ∙ c .before .before .before .before .before .before .before .enum-told2 .given .1) (refilling (c .enum-told4 .given .1) (c .before .before .before .before .refill .ensures))
 
 enum-known-end : tie.Need-enum-known-end Inv-loop μ-loop
 enum-known-end c = search needs
 
 loop-less-2 : tie.Need-loop-less-2 Inv-loop μ-loop
-loop-less-2 c = fewer-read (c .before .before .before .before .before .before .before .before .before .before .before .before .loop .inv) (sym (c .before .before .before .before .before .before .before .before .before .before .take-line .ensures) ∙ c .before .before .before .before .before .before .before .before .enum-told3 .given .1) (refilling (c .before .end .given .1) (c .before .before .before .before .before .refill .ensures))
+loop-less-2 c = fewer-read (c .before .before .before .before .before .before .before .before .before .before .before .before .loop .inv) (sym (c .before .before .before .before .before .before .before .before .before .before .take-line .ensures) ∙ c .before .before .before .before .before .before .before .before .enum-told2 .given .1) (refilling (c .before .end .given .1) (c .before .before .before .before .before .refill .ensures))
 
 loop-again-2 : tie.Need-loop-again-2 Inv-loop μ-loop
-loop-again-2 c = on-read (c .before .before .before .before .before .before .before .before .before .before .before .before .loop .inv) (sym (c .before .before .before .before .before .before .before .before .before .before .take-line .ensures) ∙ c .before .before .before .before .before .before .before .before .enum-told3 .given .1) (refilling (c .before .end .given .1) (c .before .before .before .before .before .refill .ensures))
+loop-again-2 c = on-read (c .before .before .before .before .before .before .before .before .before .before .before .before .loop .inv) (sym (c .before .before .before .before .before .before .before .before .before .before .take-line .ensures) ∙ c .before .before .before .before .before .before .before .before .enum-told2 .given .1) (refilling (c .before .end .given .1) (c .before .before .before .before .before .refill .ensures))
 
 pub line-from-spec : {M : Type 1} → statement M
 line-from-spec =
@@ -106,16 +106,16 @@ line-from-spec =
     enum-told
     same-length-3
     returns-3
-    enum-told-2
+    enum-known-left
     same-length-4
     returns-4
-    enum-told-3
+    enum-told-2
     sub-in-hand
     refill-requires
-    enum-told-4
+    enum-told-3
     same-length-5
     returns-5
-    enum-told-5
+    enum-told-4
     loop-less
     loop-again
     enum-known-end
