@@ -21,7 +21,7 @@ use Rattle.neighbor.specs.declared.Entry.{Entry}
 use Rattle.neighbor.specs.declared.State.the-variants.{Started, Incomplete, Reachable, Stale}
 use Rattle.neighbor.specs.declared.State.{State}
 use Rattle.report.specs.AnswerLines.{newline, eachLine, solicitWord, refusedWord, offWord, badWord, retransmitWord, failedWord, solicitLine, refusedLine, offLine, badLine, addressLine, probeLine, slotLine, probeLines, eventMost}
-use Rattle.report.specs.StateLines.{headingLine, section, addressField, hardwareField, numberField, endField, prefixLine, routerLine, originField, preferredField, addrLine, routeOriginField, expiryField, routeLine, neighborField, neighborLine, prefixesText, routersText, addressesText, routesText, neighborsText, stateText, sectionMost, stateMost, reachableWord, staleWord, dashWord, prefixesWord, routersWord, addressesWord, routesWord, neighborsWord}
+use Rattle.report.specs.StateLines.{headingLine, section, addressField, hardwareField, numberField, endField, prefixFields, prefixLine, routerFields, routerLine, originField, preferredField, addrFields, addrLine, routeOriginField, expiryField, routeFields, routeLine, neighborField, neighborLine, prefixesText, routersText, addressesText, routesText, neighborsText, stateText, sectionMost, stateMost, reachableWord, staleWord, dashWord, prefixesWord, routersWord, addressesWord, routesWord, neighborsWord}
 use Rattle.sweep.specs.declared.Events.{Events}
 use Rattle.sweep.specs.declared.ProbeEvent.the-variants.{Retransmit, Failed}
 use Rattle.sweep.specs.declared.ProbeEvent.{ProbeEvent}
@@ -127,12 +127,12 @@ unfolding hardwareField
 hardware a = hex-of (hardwareBytes a) 6 (omega arith)
 
 prefix-short : (p : Prefix) → Short (prefixLine p) 96
-unfolding prefixLine
+unfolding prefixLine prefixFields
 prefix-short p =
     then (then (then (then (address (p .cidr .address)) (number-short (p .cidr .«prefix_len»))) (end-short (p .«preferred_until»))) (end-short (p .«valid_until»))) end
 
 router-short : (r : Router) → Short (routerLine r) 96
-unfolding routerLine
+unfolding routerLine routerFields
 router-short r = at-most 96 (then (then (address (r .addr)) (number-short (r .«valid_until» .0))) end) (omega arith)
 
 origin-short : (o : AddrOrigin) → Short (originField o) 7
@@ -145,7 +145,7 @@ preferred-short (Until e) = end-short e
 preferred-short Never = record { is = omega arith }
 
 addr-short : (e : IfaceAddr) → Short (addrLine e) 96
-unfolding addrLine
+unfolding addrLine addrFields
 addr-short e =
     at-most 96
     (then (then (then (then (address (e .cidr .address)) (number-short (e .cidr .«prefix_len»))) (origin-short (e .origin))) (preferred-short (e .preferred))) end)
@@ -160,7 +160,7 @@ expiry-short Forever = record { is = omega arith }
 expiry-short (At t) = number-short (t .0)
 
 route-short : (e : Route) → Short (routeLine e) 96
-unfolding routeLine
+unfolding routeLine routeFields
 route-short e =
     at-most 96 (then (then (then (address (e .«via_router»)) (route-origin-short (e .origin))) (expiry-short (e .«expires_at»))) end) (omega arith)
 

@@ -94,14 +94,20 @@ endField (At t) = numberField (t .0)
 endField Forever = foreverWord
 
 -- "prefix, length, preferred, valid"
+unfoldable pub prefixFields : Prefix → List ℕ
+prefixFields p =
+    ((addressField (p .cidr .address) ++ numberField (p .cidr .«prefix_len»)) ++ endField (p .«preferred_until»))
+    ++ endField (p .«valid_until»)
+
 unfoldable pub prefixLine : Prefix → List ℕ
-prefixLine p =
-    (((addressField (p .cidr .address) ++ numberField (p .cidr .«prefix_len»)) ++ endField (p .«preferred_until»))
-    ++ endField (p .«valid_until»)) ++ newline
+prefixLine p = prefixFields p ++ newline
 
 -- "router, expiry"
+unfoldable pub routerFields : Router → List ℕ
+routerFields r = addressField (r .addr) ++ numberField (r .«valid_until» .0)
+
 unfoldable pub routerLine : Router → List ℕ
-routerLine r = (addressField (r .addr) ++ numberField (r .«valid_until» .0)) ++ newline
+routerLine r = routerFields r ++ newline
 
 -- "address, length, origin, preferred (`-` application's, `never` run out)"
 abbrev pub originField : AddrOrigin → List ℕ
@@ -113,9 +119,12 @@ preferredField Always = dashWord
 preferredField (Until e) = endField e
 preferredField Never = neverWord
 
+unfoldable pub addrFields : IfaceAddr → List ℕ
+addrFields e =
+    ((addressField (e .cidr .address) ++ numberField (e .cidr .«prefix_len»)) ++ originField (e .origin)) ++ preferredField (e .preferred)
+
 unfoldable pub addrLine : IfaceAddr → List ℕ
-addrLine e =
-    (((addressField (e .cidr .address) ++ numberField (e .cidr .«prefix_len»)) ++ originField (e .origin)) ++ preferredField (e .preferred)) ++ newline
+addrLine e = addrFields e ++ newline
 
 -- "via, origin, expiry"
 abbrev pub routeOriginField : RouteOrigin → List ℕ
@@ -126,8 +135,11 @@ abbrev pub expiryField : Expiry → List ℕ
 expiryField Forever = dashWord
 expiryField (At t) = numberField (t .0)
 
+unfoldable pub routeFields : Route → List ℕ
+routeFields e = (addressField (e .«via_router») ++ routeOriginField (e .origin)) ++ expiryField (e .«expires_at»)
+
 unfoldable pub routeLine : Route → List ℕ
-routeLine e = ((addressField (e .«via_router») ++ routeOriginField (e .origin)) ++ expiryField (e .«expires_at»)) ++ newline
+routeLine e = routeFields e ++ newline
 
 -- "neighbour, state (`incomplete`, `reachable`, `stale`), hardware address, expiry (`-` if none)"; "A listing shows Started as Incomplete."
 abbrev pub listedField : NeighborState → List ℕ

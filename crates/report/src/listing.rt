@@ -5,7 +5,7 @@ ghost use Rattle.iface.specs.AddressRules.{addrsOf};
 ghost use Rattle.iface.specs.RouteRules.{routesOf};
 ghost use Rattle.neighbor.specs.CacheCalls.{entries};
 ghost use Rattle.report.specs.AnswerLines.{Printed};
-ghost use Rattle.report.specs.StateLines.{headingLine, numberField, endField, prefixLine, routerLine, originField, preferredField, addrLine, routeOriginField, expiryField, routeLine, neighborField, neighborLine, prefixesText, routersText, addressesText, routesText, neighborsText, sectionMost};
+ghost use Rattle.report.specs.StateLines.{headingLine, numberField, endField, prefixFields, prefixLine, routerFields, routerLine, originField, preferredField, addrFields, addrLine, routeOriginField, expiryField, routeFields, routeLine, neighborField, neighborLine, prefixesText, routersText, addressesText, routesText, neighborsText, sectionMost};
 use iface::addr::AddrOrigin;
 use iface::addr::IFACE_ADDR_COUNT;
 use iface::addr::IfaceAddr;
@@ -38,7 +38,7 @@ fn heading(out: &mut [u8], at: usize, name: &[u8], count: usize) -> usize
 }
 
 // A number as a further field.
-fn number_field(out: &mut [u8], at: usize, value: u64) -> usize
+pub fn number_field(out: &mut [u8], at: usize, value: u64) -> usize
     ensures { λ r. ⌜ Put (now (out .entry)) at (numberField value) r (now (out .exit)) ⌝ }
 {
     let after_space = print::byte(out, at, b' ');
@@ -56,8 +56,8 @@ fn end_field(out: &mut [u8], at: usize, end: Expiry) -> usize
 }
 
 // Prefix, length, preferred, valid.
-fn prefix_line(out: &mut [u8], at: usize, prefix: Prefix) -> usize
-    ensures { λ r. ⌜ Put (now (out .entry)) at (prefixLine prefix) r (now (out .exit)) ⌝ }
+pub fn prefix_fields(out: &mut [u8], at: usize, prefix: Prefix) -> usize
+    ensures { λ r. ⌜ Put (now (out .entry)) at (prefixFields prefix) r (now (out .exit)) ⌝ }
 {
     let addr = prefix.cidr.address;
     let preferred = prefix.preferred_until;
@@ -65,8 +65,14 @@ fn prefix_line(out: &mut [u8], at: usize, prefix: Prefix) -> usize
     let after_addr = print::address(out, at, addr);
     let after_len = number_field(out, after_addr, prefix.cidr.prefix_len as u64);
     let after_preferred = end_field(out, after_len, preferred);
-    let after_valid = end_field(out, after_preferred, valid);
-    print::byte(out, after_valid, b'\n')
+    end_field(out, after_preferred, valid)
+}
+
+fn prefix_line(out: &mut [u8], at: usize, prefix: Prefix) -> usize
+    ensures { λ r. ⌜ Put (now (out .entry)) at (prefixLine prefix) r (now (out .exit)) ⌝ }
+{
+    let after_fields = prefix_fields(out, at, prefix);
+    print::byte(out, after_fields, b'\n')
 }
 
 pub fn prefixes(out: &mut [u8], at: usize, slaac: Slaac) -> usize
@@ -84,13 +90,19 @@ pub fn prefixes(out: &mut [u8], at: usize, slaac: Slaac) -> usize
 }
 
 // Router, expiry.
-fn router_line(out: &mut [u8], at: usize, router: Router) -> usize
-    ensures { λ r. ⌜ Put (now (out .entry)) at (routerLine router) r (now (out .exit)) ⌝ }
+pub fn router_fields(out: &mut [u8], at: usize, router: Router) -> usize
+    ensures { λ r. ⌜ Put (now (out .entry)) at (routerFields router) r (now (out .exit)) ⌝ }
 {
     let addr = router.addr;
     let after_addr = print::address(out, at, addr);
-    let after_expiry = number_field(out, after_addr, router.valid_until.0);
-    print::byte(out, after_expiry, b'\n')
+    number_field(out, after_addr, router.valid_until.0)
+}
+
+fn router_line(out: &mut [u8], at: usize, router: Router) -> usize
+    ensures { λ r. ⌜ Put (now (out .entry)) at (routerLine router) r (now (out .exit)) ⌝ }
+{
+    let after_fields = router_fields(out, at, router);
+    print::byte(out, after_fields, b'\n')
 }
 
 pub fn routers(out: &mut [u8], at: usize, slaac: Slaac) -> usize
@@ -127,8 +139,8 @@ fn preferred_field(out: &mut [u8], at: usize, preferred: Preferred) -> usize
 }
 
 // Address, length, origin, preferred.
-fn addr_line(out: &mut [u8], at: usize, entry: IfaceAddr) -> usize
-    ensures { λ r. ⌜ Put (now (out .entry)) at (addrLine entry) r (now (out .exit)) ⌝ }
+pub fn addr_fields(out: &mut [u8], at: usize, entry: IfaceAddr) -> usize
+    ensures { λ r. ⌜ Put (now (out .entry)) at (addrFields entry) r (now (out .exit)) ⌝ }
 {
     let addr = entry.cidr.address;
     let origin = entry.origin;
@@ -136,8 +148,14 @@ fn addr_line(out: &mut [u8], at: usize, entry: IfaceAddr) -> usize
     let after_addr = print::address(out, at, addr);
     let after_len = number_field(out, after_addr, entry.cidr.prefix_len as u64);
     let after_origin = origin_field(out, after_len, origin);
-    let after_preferred = preferred_field(out, after_origin, preferred);
-    print::byte(out, after_preferred, b'\n')
+    preferred_field(out, after_origin, preferred)
+}
+
+fn addr_line(out: &mut [u8], at: usize, entry: IfaceAddr) -> usize
+    ensures { λ r. ⌜ Put (now (out .entry)) at (addrLine entry) r (now (out .exit)) ⌝ }
+{
+    let after_fields = addr_fields(out, at, entry);
+    print::byte(out, after_fields, b'\n')
 }
 
 pub fn addresses(out: &mut [u8], at: usize, addrs: IfaceAddrs) -> usize
@@ -173,16 +191,22 @@ fn expiry_field(out: &mut [u8], at: usize, expiry: Expiry) -> usize
 }
 
 // Via, origin, expiry.
-fn route_line(out: &mut [u8], at: usize, route: Route) -> usize
-    ensures { λ r. ⌜ Put (now (out .entry)) at (routeLine route) r (now (out .exit)) ⌝ }
+pub fn route_fields(out: &mut [u8], at: usize, route: Route) -> usize
+    ensures { λ r. ⌜ Put (now (out .entry)) at (routeFields route) r (now (out .exit)) ⌝ }
 {
     let via = route.via_router;
     let origin = route.origin;
     let expiry = route.expires_at;
     let after_via = print::address(out, at, via);
     let after_origin = route_origin_field(out, after_via, origin);
-    let after_expiry = expiry_field(out, after_origin, expiry);
-    print::byte(out, after_expiry, b'\n')
+    expiry_field(out, after_origin, expiry)
+}
+
+fn route_line(out: &mut [u8], at: usize, route: Route) -> usize
+    ensures { λ r. ⌜ Put (now (out .entry)) at (routeLine route) r (now (out .exit)) ⌝ }
+{
+    let after_fields = route_fields(out, at, route);
+    print::byte(out, after_fields, b'\n')
 }
 
 pub fn routes(out: &mut [u8], at: usize, table: Routes) -> usize

@@ -1,23 +1,11 @@
 use borrow.Author.Needs.{needs}
-use Rattle.report.specs.StateLines.{prefixLine, addressField}
+use Rattle.report.specs.StateLines.{prefixLine}
 use Rattle.text.proofs.PlaceLaws.{chain}
 use Rattle.report.proofs.listing.prefix_line.Statement.{statement}
 use Rattle.report.proofs.listing.prefix_line.Tie as tie
 
-address-requires : tie.Need-address-requires
-address-requires c κs = search needs
-
-cast-number-field : tie.Need-cast-number-field
-cast-number-field c = search needs
-
-number-field-requires : tie.Need-number-field-requires
-number-field-requires c κs = search needs
-
-end-field-requires : tie.Need-end-field-requires
-end-field-requires c κs = search needs
-
-end-field-requires-2 : tie.Need-end-field-requires-2
-end-field-requires-2 c κs = search needs
+prefix-fields-requires : tie.Need-prefix-fields-requires
+prefix-fields-requires c κs = search needs
 
 byte-requires : tie.Need-byte-requires
 byte-requires c κs = search needs
@@ -26,18 +14,8 @@ same-length : tie.Need-same-length
 same-length c = search needs
 
 returns : tie.Need-returns
-unfolding prefixLine addressField
-returns c = chain (chain (chain (chain (c .before .before .before .before .before .before .before .before .before .before .before .before .before .before .before .before .before .before .before .address .ensures) (c .before .before .before .before .before .before .before .before .before .before .before .before .before .before .number-field .ensures)) (c .before .before .before .before .before .before .before .before .before .before .end-field .ensures)) (c .before .before .before .before .before .before .end-field2 .ensures)) (c .before .before .byte .ensures)
+unfolding prefixLine
+returns c = chain (c .before .before .before .before .before .before .prefix-fields .ensures) (c .before .before .byte .ensures)
 
 pub prefix-line-spec : {M : Type 1} → statement M
-prefix-line-spec =
-    tie.close
-    (tie.spec
-    address-requires
-    cast-number-field
-    number-field-requires
-    end-field-requires
-    end-field-requires-2
-    byte-requires
-    same-length
-    returns)
+prefix-line-spec = tie.close (tie.spec prefix-fields-requires byte-requires same-length returns)
