@@ -1,12 +1,15 @@
 //! Single calls, one line in and one line out: what the event program does not reach. See README.md for the lines.
 //!
-//! `Side` is what is driven. There are two: the real code behind the host's checks, and the model. The port's own source,
-//! translated to Rust, can be a third.
+//! `Side` is what is driven. There are two: the real code behind the host's checks (`real.rs`), and the model (`modelled.rs`).
 
 use std::fmt::Write;
 
+use crate::events::LINE;
+pub use crate::modelled::Modelled;
+pub use crate::real::Real;
 use crate::text;
-use xarxa::world::{self, Kept, Phase, Solicitor, World};
+use crate::turns::{self, Input};
+use model::mark;
 
 pub type Addr = [u8; 16];
 pub type Mac = [u8; 6];
@@ -93,10 +96,68 @@ pub struct Soliciting {
     pub other: bool,
 }
 
+/// What kind of address it is.
+#[derive(Debug, Clone, Copy, PartialEq, Eq)]
+pub struct AddrKind {
+    pub unicast: bool,
+    pub multicast: bool,
+    pub link_local: bool,
+    pub unspecified: bool,
+    pub all_routers: bool,
+}
+
+/// The header of an advertisement; the lifetime is in seconds.
+#[derive(Debug, Clone, Copy, PartialEq, Eq)]
+pub struct Header {
+    pub lifetime: u32,
+    pub managed: bool,
+    pub other: bool,
+}
+
+/// What stands at a place of a message.
+#[derive(Debug, Clone, PartialEq, Eq)]
+pub enum Next {
+    End,
+    Malformed,
+    /// What the option holds, and the place behind it.
+    Option(Held, usize),
+}
+
 pub trait Side {
+    /// Whether the rules that fire are marked.
+    fn marks(&self) -> bool {
+        false
+    }
+
     /// A new world: four interfaces with this hardware address, link down, SLAAC on. `first` is the smallest time that
     /// any call will take.
     fn reset(&mut self, mac: Mac, first: u64);
+
+    /// The clock that is held from now on.
+    fn clock(&mut self, now: u64, deadline: Option<u64>);
+    fn now(&mut self) -> u64;
+    /// Whether the held clock says that the time has come, and its deadline afterwards.
+    fn expired(&mut self, time: u64) -> (bool, Option<u64>);
+    /// The held clock's deadline afterwards.
+    fn schedule(&mut self, time: u64) -> Option<u64>;
+    /// The point of time so many ms later.
+    fn later(&mut self, time: u64, millis: u64) -> u64;
+
+    fn kind(&mut self, addr: Addr) -> AddrKind;
+    /// Whether it is unicast, and its EUI-64.
+    fn hardware(&mut self, mac: Mac) -> (bool, [u8; 8]);
+    /// The address that a prefix and a hardware address form.
+    fn form(&mut self, prefix: Addr, len: u8, mac: Mac) -> Option<Addr>;
+    fn is_formed(&mut self, addr: Addr, mac: Mac) -> bool;
+
+    fn header(&mut self, message: &[u8]) -> Result<Header, Refused>;
+    /// The place of the first malformed option, from a place on.
+    fn walk(&mut self, message: &[u8], from: usize) -> Option<usize>;
+    fn next(&mut self, message: &[u8], place: usize) -> Next;
+    /// Of a message as it stands.
+    fn checksum(&mut self, source: Addr, destination: Addr, message: &[u8]) -> u16;
+    /// Whether a message to that destination is a router solicitation to all routers.
+    fn is_solicitation(&mut self, message: &[u8], destination: Addr) -> bool;
 
     /// The option at the front: what it holds, and its data as (from, up to). None if malformed.
     fn option(&mut self, bytes: &[u8]) -> Option<(Held, usize, usize)>;
@@ -111,10 +172,12 @@ pub trait Side {
     fn get(&mut self, iface: u8, addr: Addr) -> Result<Option<Shown>, Refused>;
     fn remove(&mut self, iface: u8, addr: Addr) -> Result<Option<Shown>, Refused>;
     fn clear(&mut self, iface: u8) -> Result<(), Refused>;
-    /// The events, and the clock's deadline afterwards.
+    /// The events, and the clock's deadline afterwards. The clock is not the one that is held.
     fn sweep(&mut self, iface: u8, now: u64, deadline: Option<u64>) -> Result<(Vec<Event>, Option<u64>), Refused>;
     /// All entries in table order.
     fn cache(&mut self) -> Vec<(u8, Addr, Entry)>;
+    /// All entries as the application sees them.
+    fn neighbors(&mut self) -> Vec<(u8, Addr, Shown)>;
 
     /// The packet dropped to make room.
     fn push(&mut self, iface: u8, addr: Addr, handle: u32) -> Result<Option<u32>, Refused>;
@@ -125,15 +188,17 @@ pub trait Side {
     fn queue(&mut self) -> Vec<(u8, Addr, u32)>;
 
     fn add_address(&mut self, iface: u8, addr: Addr, len: u64) -> Result<(), Refused>;
-    /// A default route of the application.
-    fn add_route(&mut self, iface: u8, via: Addr) -> Result<(), Refused>;
+    /// The first link-local address.
+    fn source(&mut self, iface: u8) -> Result<Option<Addr>, Refused>;
+    /// A route of the application.
+    fn add_route(&mut self, iface: u8, prefix: Addr, len: u64, via: Addr) -> Result<(), Refused>;
     fn link(&mut self, iface: u8, up: bool) -> Result<(), Refused>;
     fn restart(&mut self, iface: u8) -> Result<(), Refused>;
     fn turn_on(&mut self, iface: u8) -> Result<(), Refused>;
     fn turn_off(&mut self, iface: u8) -> Result<(), Refused>;
     /// False for Off.
     fn advertise(&mut self, iface: u8, source: Addr, now: u64, message: &[u8]) -> Result<bool, Refused>;
-    /// `room`: the bytes of the lent buffer. The clock's deadline afterwards.
+    /// `room`: the bytes of the lent buffer. The clock's deadline afterwards. The clock is not the one that is held.
     fn poll(&mut self, iface: u8, now: u64, deadline: Option<u64>, room: u64)
     -> Result<(Polled, Option<u64>), Refused>;
     /// None with SLAAC off.
@@ -143,53 +208,105 @@ pub trait Side {
     fn routers(&mut self, iface: u8) -> Result<Vec<(Addr, u64)>, Refused>;
     /// Address, length, whether SLAAC's, preferred.
     fn addresses(&mut self, iface: u8) -> Result<Vec<(Addr, u8, bool, Preferred)>, Refused>;
-    /// Interface, via, whether SLAAC's, expiry.
-    fn routes(&mut self) -> Vec<(u8, Addr, bool, Option<u64>)>;
+    /// In table order.
+    fn routes(&mut self) -> Vec<Route>;
+}
+
+#[derive(Debug, Clone, Copy, PartialEq, Eq)]
+pub struct Route {
+    pub iface: u8,
+    pub prefix: Addr,
+    pub len: u8,
+    pub via: Addr,
+    pub slaac: bool,
+    pub until: Option<u64>,
 }
 
 // ---- lines
 
-struct Fields<'a>(std::str::Split<'a, char>);
+/// Why a line does not read.
+#[derive(Debug, Clone, Copy, PartialEq, Eq)]
+enum Bad {
+    TooLong,
+    NoText,
+    Word,
+    /// Two spaces, or one at the front or the end, or an empty line.
+    Empty,
+    Missing,
+    Surplus,
+    /// No number, or none below 2^64.
+    Number,
+    /// A number above its range.
+    Range,
+    /// Hexadecimal digits.
+    Digits,
+}
+
+struct Fields<'a>(std::iter::Peekable<std::str::Split<'a, char>>);
 
 impl<'a> Fields<'a> {
-    fn word(&mut self) -> Option<&'a str> {
-        self.0.next().filter(|w| !w.is_empty())
+    fn word(&mut self) -> Result<&'a str, Bad> {
+        match self.0.next() {
+            None => Err(Bad::Missing),
+            Some("") => Err(Bad::Empty),
+            Some(word) => Ok(word),
+        }
     }
-    fn number(&mut self) -> Option<u64> {
-        text::number(self.word()?.as_bytes())
+    fn number(&mut self) -> Result<u64, Bad> {
+        text::number(self.word()?.as_bytes()).ok_or(Bad::Number)
     }
-    fn small<T: TryFrom<u64>>(&mut self) -> Option<T> {
-        self.number()?.try_into().ok()
+    fn small<T: TryFrom<u64>>(&mut self) -> Result<T, Bad> {
+        self.number()?.try_into().map_err(|_| Bad::Range)
     }
-    fn addr(&mut self) -> Option<Addr> {
-        text::fixed(self.word()?.as_bytes())
+    fn addr(&mut self) -> Result<Addr, Bad> {
+        text::fixed(self.word()?.as_bytes()).ok_or(Bad::Digits)
     }
-    fn mac(&mut self) -> Option<Mac> {
-        text::fixed(self.word()?.as_bytes())
+    fn mac(&mut self) -> Result<Mac, Bad> {
+        text::fixed(self.word()?.as_bytes()).ok_or(Bad::Digits)
     }
     /// Bytes; `-` for none.
-    fn bytes(&mut self) -> Option<Vec<u8>> {
+    fn bytes(&mut self) -> Result<Vec<u8>, Bad> {
         match self.word()? {
-            "-" => Some(Vec::new()),
-            w => text::bytes(w.as_bytes()),
+            "-" => Ok(Vec::new()),
+            w => text::bytes(w.as_bytes()).ok_or(Bad::Digits),
         }
     }
-    fn deadline(&mut self) -> Option<Option<u64>> {
+    fn deadline(&mut self) -> Result<Option<u64>, Bad> {
         match self.word()? {
-            "-" => Some(None),
-            w => Some(Some(text::number(w.as_bytes())?)),
+            "-" => Ok(None),
+            w => text::number(w.as_bytes()).map(Some).ok_or(Bad::Number),
         }
     }
-    fn end(&mut self) -> Option<()> {
-        if self.0.next().is_none() { Some(()) } else { None }
+    /// What comes to the main loop, and when.
+    fn input(&mut self) -> Result<(u64, Input), Bad> {
+        let now = self.number()?;
+        let input = match self.word()? {
+            "timer" => Input::Timer,
+            "linkup" => Input::LinkUp,
+            "advert" => Input::Advert(self.addr()?, self.bytes()?),
+            "answer" => Input::Answer(self.addr()?, self.mac()?),
+            "packet" => Input::Packet(self.addr()?, self.small()?),
+            _ => return Err(Bad::Word),
+        };
+        Ok((now, input))
+    }
+    fn is_at_end(&mut self) -> bool {
+        self.0.peek().is_none()
+    }
+    fn end(&mut self) -> Result<(), Bad> {
+        match self.0.next() {
+            None => Ok(()),
+            Some("") => Err(Bad::Empty),
+            Some(_) => Err(Bad::Surplus),
+        }
     }
 }
 
-fn hex(bytes: &[u8]) -> String {
+pub(crate) fn hex(bytes: &[u8]) -> String {
     if bytes.is_empty() { "-".into() } else { text::hex(bytes) }
 }
 
-fn time(t: Option<u64>) -> String {
+pub(crate) fn time(t: Option<u64>) -> String {
     t.map_or("-".into(), |t| t.to_string())
 }
 
@@ -207,12 +324,38 @@ fn shown(s: Option<Shown>) -> String {
     }
 }
 
-fn handles(h: &[u32]) -> String {
+pub(crate) fn handles(h: &[u32]) -> String {
     let mut s = format!("dropped {}", h.len());
     for h in h {
         write!(s, " {h}").unwrap();
     }
     s
+}
+
+fn held(held: &Held) -> String {
+    match held {
+        Held::LinkLayer(t, mac) => format!("{t} {}", hex(mac)),
+        Held::Prefix(len, flags, valid, preferred, prefix) => {
+            format!("3 {len} {flags} {valid} {preferred} {}", hex(prefix))
+        }
+        Held::Mtu(mtu) => format!("5 {mtu}"),
+        Held::Other(t) => t.to_string(),
+    }
+}
+
+pub(crate) fn events(events: Vec<Event>) -> String {
+    list(events, |e| match e {
+        Event::Retransmit(addr) => format!("retransmit {}", hex(addr)),
+        Event::Failed(addr) => format!("failed {}", hex(addr)),
+    })
+}
+
+fn bit(b: bool) -> u8 {
+    b.into()
+}
+
+fn yes(b: bool) -> String {
+    if b { "yes" } else { "no" }.into()
 }
 
 /// A list: its count, then each entry after a semicolon.
@@ -224,40 +367,169 @@ fn list<T>(items: Vec<T>, show: impl Fn(&T) -> String) -> String {
     s
 }
 
+/// The lines of an input. The last may lack its newline.
+pub fn split(input: &[u8]) -> Vec<&[u8]> {
+    let mut lines: Vec<&[u8]> = input.split(|b| *b == b'\n').collect();
+    if lines.last().is_some_and(|l| l.is_empty()) {
+        lines.pop();
+    }
+    lines
+}
+
 /// What a line prints.
 pub fn answer(side: &mut dyn Side, line: &str) -> String {
+    answer_bytes(side, line.as_bytes())
+}
+
+/// The same of a line that need not be text.
+pub fn answer_bytes(side: &mut dyn Side, line: &[u8]) -> String {
     match call(side, line) {
-        None => "bad line".into(),
-        Some(Ok(text)) => text,
-        Some(Err(number)) => format!("refused {number}"),
+        Err(why) => {
+            if side.marks() {
+                mark_bad(why, line);
+            }
+            "bad line".into()
+        }
+        Ok(Ok(text)) => text,
+        Ok(Err(number)) => format!("refused {number}"),
     }
 }
 
-fn call(side: &mut dyn Side, line: &str) -> Option<Result<String, Refused>> {
-    let mut f = Fields(line.split(' '));
+fn mark_bad(why: Bad, line: &[u8]) {
+    match why {
+        Bad::TooLong => mark!("calls.bad-too-long"),
+        Bad::NoText => {}
+        Bad::Word => mark!("calls.bad-word"),
+        Bad::Empty if line.is_empty() => mark!("calls.bad-empty-line"),
+        Bad::Empty => mark!("calls.bad-empty-field"),
+        Bad::Missing => mark!("calls.bad-missing"),
+        Bad::Surplus => mark!("calls.bad-surplus"),
+        Bad::Number => mark!("calls.bad-number"),
+        Bad::Range => mark!("calls.bad-range"),
+        Bad::Digits => mark!("calls.bad-digits"),
+    }
+    if !line.is_ascii() {
+        mark!("calls.bad-no-text");
+    }
+    if line.last() == Some(&b'\r') {
+        mark!("calls.bad-carriage-return");
+    }
+}
+
+/// Most inputs of a `run`.
+const INPUTS: usize = 4;
+
+fn call(side: &mut dyn Side, line: &[u8]) -> Result<Result<String, Refused>, Bad> {
+    if line.len() > LINE {
+        return Err(Bad::TooLong);
+    }
+    let line = str::from_utf8(line).map_err(|_| Bad::NoText)?;
+    let mut f = Fields(line.split(' ').peekable());
     let ok = |()| "ok".to_string();
-    Some(match f.word()? {
+    Ok(match f.word()? {
         "new" => {
             let (mac, first) = (f.mac()?, f.number()?);
             f.end()?;
             side.reset(mac, first);
             Ok("ok".into())
         }
+        "clock" => {
+            let (now, deadline) = (f.number()?, f.deadline()?);
+            f.end()?;
+            side.clock(now, deadline);
+            Ok("ok".into())
+        }
+        "now" => {
+            f.end()?;
+            Ok(side.now().to_string())
+        }
+        "expired" => {
+            let at = f.number()?;
+            f.end()?;
+            let (expired, deadline) = side.expired(at);
+            Ok(format!("{} deadline {}", yes(expired), time(deadline)))
+        }
+        "schedule" => {
+            let at = f.number()?;
+            f.end()?;
+            Ok(format!("deadline {}", time(side.schedule(at))))
+        }
+        "add" => {
+            let (at, millis) = (f.number()?, f.number()?);
+            f.end()?;
+            Ok(side.later(at, millis).to_string())
+        }
+        "kind" => {
+            let addr = f.addr()?;
+            f.end()?;
+            let kind = side.kind(addr);
+            Ok(format!(
+                "unicast {} multicast {} linklocal {} unspecified {} allrouters {}",
+                bit(kind.unicast),
+                bit(kind.multicast),
+                bit(kind.link_local),
+                bit(kind.unspecified),
+                bit(kind.all_routers)
+            ))
+        }
+        "hardware" => {
+            let mac = f.mac()?;
+            f.end()?;
+            let (unicast, eui) = side.hardware(mac);
+            Ok(format!("unicast {} eui {}", bit(unicast), hex(&eui)))
+        }
+        "form" => {
+            let (prefix, len, mac) = (f.addr()?, f.small()?, f.mac()?);
+            f.end()?;
+            Ok(side.form(prefix, len, mac).map_or("nothing".into(), |addr| format!("formed {}", hex(&addr))))
+        }
+        "formed" => {
+            let (addr, mac) = (f.addr()?, f.mac()?);
+            f.end()?;
+            Ok(yes(side.is_formed(addr, mac)))
+        }
+        // The bytes are compared, on either side.
+        "same" => {
+            let (mac, other) = (f.mac()?, f.mac()?);
+            f.end()?;
+            Ok(yes(mac == other))
+        }
+        "advert" => {
+            let message = f.bytes()?;
+            f.end()?;
+            side.header(&message).map(|h| format!("lifetime {} managed {} other {}", h.lifetime, bit(h.managed), bit(h.other)))
+        }
+        "options" => {
+            let (message, place) = (f.bytes()?, f.small()?);
+            f.end()?;
+            Ok(side.walk(&message, place).map_or("clean".into(), |at| format!("malformed {at}")))
+        }
+        "next" => {
+            let (message, place) = (f.bytes()?, f.small()?);
+            f.end()?;
+            Ok(match side.next(&message, place) {
+                Next::End => "end".into(),
+                Next::Malformed => "malformed".into(),
+                Next::Option(option, next) => format!("{} next {next}", held(&option)),
+            })
+        }
+        "checksum" => {
+            let (source, destination, message) = (f.addr()?, f.addr()?, f.bytes()?);
+            f.end()?;
+            Ok(side.checksum(source, destination, &message).to_string())
+        }
+        "solicitation" => {
+            let (message, destination) = (f.bytes()?, f.addr()?);
+            f.end()?;
+            Ok(yes(side.is_solicitation(&message, destination)))
+        }
         "option" => {
             let bytes = f.bytes()?;
             f.end()?;
             Ok(match side.option(&bytes) {
                 None => "malformed -".into(),
-                Some((held, from, to)) => {
-                    let held = match held {
-                        Held::LinkLayer(t, mac) => format!("{t} {}", hex(&mac)),
-                        Held::Prefix(len, flags, valid, preferred, prefix) => {
-                            format!("3 {len} {flags} {valid} {preferred} {}", hex(&prefix))
-                        }
-                        Held::Mtu(mtu) => format!("5 {mtu}"),
-                        Held::Other(t) => t.to_string(),
-                    };
-                    format!("{held} data {from} {to} {}", hex(&bytes[from..to]))
+                Some((option, from, to)) => {
+                    format!("{} data {from} {to} {}", held(&option), hex(&bytes[from..to]))
                 }
             })
         }
@@ -268,7 +540,7 @@ fn call(side: &mut dyn Side, line: &str) -> Option<Result<String, Refused>> {
                 "2" => ToWrite::LinkLayer(2, f.mac()?),
                 "3" => ToWrite::Prefix(f.small()?, f.small()?, f.small()?, f.small()?, f.addr()?),
                 "5" => ToWrite::Mtu(f.small()?),
-                _ => return None,
+                _ => return Err(Bad::Word),
             };
             f.end()?;
             side.write(&mut message, place, &option).map(|()| hex(&message))
@@ -320,12 +592,11 @@ fn call(side: &mut dyn Side, line: &str) -> Option<Result<String, Refused>> {
         "sweep" => {
             let (iface, now, deadline) = (f.small()?, f.number()?, f.deadline()?);
             f.end()?;
-            side.sweep(iface, now, deadline).map(|(events, deadline)| {
-                let events = list(events, |e| match e {
-                    Event::Retransmit(addr) => format!("retransmit {}", hex(addr)),
-                    Event::Failed(addr) => format!("failed {}", hex(addr)),
-                });
-                format!("deadline {} events {events}", time(deadline))
+            // The held clock is lent.
+            side.clock(now, deadline);
+            side.sweep(iface, now, deadline).map(|(reported, left)| {
+                side.clock(now, left);
+                format!("deadline {} events {}", time(left), events(reported))
             })
         }
         "cache" => {
@@ -339,6 +610,10 @@ fn call(side: &mut dyn Side, line: &str) -> Option<Result<String, Refused>> {
                 };
                 format!("{iface} {} {entry}", hex(addr))
             }))
+        }
+        "neighbors" => {
+            f.end()?;
+            Ok(list(side.neighbors(), |(iface, addr, state)| format!("{iface} {} {}", hex(addr), shown(Some(*state)))))
         }
         "push" => {
             let (iface, addr, handle) = (f.small()?, f.addr()?, f.small()?);
@@ -371,14 +646,24 @@ fn call(side: &mut dyn Side, line: &str) -> Option<Result<String, Refused>> {
         "route" => {
             let (iface, via) = (f.small()?, f.addr()?);
             f.end()?;
-            side.add_route(iface, via).map(ok)
+            side.add_route(iface, DEFAULT.0, DEFAULT.1, via).map(ok)
+        }
+        "routeto" => {
+            let (iface, prefix, len, via) = (f.small()?, f.addr()?, f.number()?, f.addr()?);
+            f.end()?;
+            side.add_route(iface, prefix, len, via).map(ok)
+        }
+        "source" => {
+            let iface = f.small()?;
+            f.end()?;
+            side.source(iface).map(|s| s.map_or("nothing".into(), |addr| format!("from {}", hex(&addr))))
         }
         "link" => {
             let iface = f.small()?;
             let up = match f.word()? {
                 "up" => true,
                 "down" => false,
-                _ => return None,
+                _ => return Err(Bad::Word),
             };
             f.end()?;
             side.link(iface, up).map(ok)
@@ -407,14 +692,17 @@ fn call(side: &mut dyn Side, line: &str) -> Option<Result<String, Refused>> {
         "poll" => {
             let (iface, now, deadline, room) = (f.small()?, f.number()?, f.deadline()?, f.number()?);
             f.end()?;
-            side.poll(iface, now, deadline, room).map(|(polled, deadline)| {
+            // The held clock is lent.
+            side.clock(now, deadline);
+            side.poll(iface, now, deadline, room).map(|(polled, left)| {
+                side.clock(now, left);
                 let polled = match polled {
                     Polled::Off => "off".into(),
                     Polled::Nothing => "nothing".into(),
                     Polled::NoRoom => "noroom".into(),
                     Polled::Solicit(message) => format!("solicit {}", hex(&message)),
                 };
-                format!("deadline {} {polled}", time(deadline))
+                format!("deadline {} {polled}", time(left))
             })
         }
         "slaac" => {
@@ -428,7 +716,6 @@ fn call(side: &mut dyn Side, line: &str) -> Option<Result<String, Refused>> {
                         Phased::Discovering(t) => format!("discovering {t}"),
                         Phased::Maintaining => "maintaining".into(),
                     };
-                    let bit = |b: bool| u8::from(b);
                     format!(
                         "{phase} left {} sync {} seen {} managed {} other {}",
                         s.left,
@@ -467,597 +754,41 @@ fn call(side: &mut dyn Side, line: &str) -> Option<Result<String, Refused>> {
         }
         "routes" => {
             f.end()?;
-            Ok(list(side.routes(), |(iface, via, slaac, t)| {
-                format!("{iface} {} {} {}", hex(via), if *slaac { "slaac" } else { "static" }, time(*t))
+            Ok(list(side.routes(), |r| {
+                format!("{} {} {} {}", r.iface, hex(&r.via), if r.slaac { "slaac" } else { "static" }, time(r.until))
             }))
         }
-        _ => return None,
+        "destinations" => {
+            f.end()?;
+            Ok(list(side.routes(), |r| format!("{} {} {} {}", r.iface, hex(&r.prefix), r.len, hex(&r.via))))
+        }
+        "turn" => {
+            let (room, (now, input)) = (f.number()?, f.input()?);
+            f.end()?;
+            let mut buffer = turns::buffer(room);
+            let (report, wake) = turns::turn(side, now, &input, &mut buffer);
+            Ok(format!("{} | {}", report.text(), turns::end(wake, &buffer)))
+        }
+        "run" => {
+            let (room, budget, deadline) = (f.number()?, f.number()?, f.deadline()?);
+            let mut inputs = Vec::new();
+            while !f.is_at_end() {
+                inputs.push(f.input()?);
+            }
+            if inputs.len() > INPUTS {
+                return Err(Bad::Surplus);
+            }
+            let mut buffer = turns::buffer(room);
+            let (reports, wake) = turns::run(side, deadline, &inputs, &mut buffer, budget);
+            let mut text = reports.len().to_string();
+            for report in reports {
+                write!(text, " | {}", report.text()).unwrap();
+            }
+            Ok(format!("{text} | {}", turns::end(wake, &buffer)))
+        }
+        _ => return Err(Bad::Word),
     })
 }
 
-// ---- the real code
-
-const LATEST: u64 = 1 << 62;
-
-/// The real code behind the host's checks. Times are exact in [first, first + 2^31).
-pub struct Real {
-    world: World,
-    first: u64,
-}
-
-impl Default for Real {
-    fn default() -> Self {
-        Real {
-            world: World::new([[2, 0, 0, 0, 0, 0]; world::IFACES]),
-            first: 0,
-        }
-    }
-}
-
-fn known(iface: u8) -> Result<usize, Refused> {
-    if iface > 3 { Err(7) } else { Ok(iface as usize) }
-}
-
-fn taken(time: u64) -> Result<u32, Refused> {
-    if time > LATEST { Err(3) } else { Ok(time as u32) }
-}
-
-fn unicast(addr: Addr) -> Result<(), Refused> {
-    if world::is_unicast(addr) { Ok(()) } else { Err(2) }
-}
-
-impl Real {
-    fn outer(&self, t: u32) -> u64 {
-        self.first + u64::from(t.wrapping_sub(self.first as u32))
-    }
-
-    fn shown(&self, s: world::Shown) -> Shown {
-        match s {
-            world::Shown::Incomplete => Shown::Incomplete,
-            world::Shown::Reachable(mac, t) => Shown::Reachable(mac, self.outer(t)),
-            world::Shown::Stale(mac) => Shown::Stale(mac),
-        }
-    }
-}
-
-impl Side for Real {
-    fn reset(&mut self, mac: Mac, first: u64) {
-        self.world = World::new([mac; world::IFACES]);
-        self.first = first;
-    }
-
-    fn option(&mut self, bytes: &[u8]) -> Option<(Held, usize, usize)> {
-        let (held, len, data) = world::read_option(bytes)?;
-        assert_eq!(data, bytes[2..len]);
-        let held = match held {
-            world::Opt::Lladdr(t, mac) => Held::LinkLayer(t, mac),
-            world::Opt::Prefix(len, flags, valid, preferred, prefix) => {
-                Held::Prefix(len, flags, valid.into(), preferred.into(), prefix)
-            }
-            world::Opt::Mtu(mtu) => Held::Mtu(mtu),
-            world::Opt::Other(t) => Held::Other(t),
-        };
-        Some((held, 2, len))
-    }
-
-    fn write(&mut self, message: &mut [u8], place: usize, option: &ToWrite) -> Result<(), Refused> {
-        let (option, len) = match *option {
-            ToWrite::LinkLayer(t, mac) => (world::Opt::Lladdr(t, mac), 8),
-            ToWrite::Prefix(len, flags, valid, preferred, prefix) => {
-                (world::Opt::Prefix(len, flags, valid, preferred, prefix), 32)
-            }
-            ToWrite::Mtu(mtu) => (world::Opt::Mtu(mtu), 8),
-        };
-        if place > message.len() || message.len() - place < len {
-            return Err(4);
-        }
-        world::write_option(&mut message[place..], &option);
-        Ok(())
-    }
-
-    /// What a first poll sends.
-    fn solicit(&mut self, buffer: &mut [u8], source: Addr, mac: Mac) -> bool {
-        let mut world = World::new([mac; world::IFACES]);
-        world.push_static(0, source, 64);
-        world.set_link(0, true);
-        match world.poll(0, 0, None, buffer.len() >= 16).0 {
-            world::Poll::Solicit(message) => {
-                buffer[..16].copy_from_slice(&message);
-                true
-            }
-            world::Poll::NoRoom => false,
-            _ => panic!("the source is not link-local"),
-        }
-    }
-
-    fn lookup(&mut self, iface: u8, addr: Addr) -> Result<Lookup, Refused> {
-        let iface = known(iface)?;
-        unicast(addr)?;
-        Ok(match self.world.lookup(iface, addr) {
-            world::Lookup::Found(mac) => Lookup::Found(mac),
-            world::Lookup::Pending => Lookup::Pending,
-            world::Lookup::NotFound => Lookup::NotFound,
-        })
-    }
-
-    fn start(&mut self, iface: u8, addr: Addr) -> Result<(), Refused> {
-        let iface = known(iface)?;
-        unicast(addr)?;
-        self.world.start(iface, addr);
-        Ok(())
-    }
-
-    fn fill(&mut self, iface: u8, addr: Addr, mac: Mac, now: u64) -> Result<(), Refused> {
-        let now = taken(now)?;
-        let iface = known(iface)?;
-        unicast(addr)?;
-        if !world::is_unicast_mac(mac) {
-            return Err(2);
-        }
-        self.world.fill(iface, addr, mac, now);
-        Ok(())
-    }
-
-    fn insert(&mut self, iface: u8, addr: Addr, mac: Mac, expires: u64) -> Result<(), Refused> {
-        let expires = taken(expires)?;
-        let iface = known(iface)?;
-        // The real call refuses by itself.
-        if self.world.insert(iface, addr, mac, expires) { Ok(()) } else { Err(2) }
-    }
-
-    fn get(&mut self, iface: u8, addr: Addr) -> Result<Option<Shown>, Refused> {
-        let found = self.world.get(known(iface)?, addr);
-        Ok(found.map(|s| self.shown(s)))
-    }
-
-    fn remove(&mut self, iface: u8, addr: Addr) -> Result<Option<Shown>, Refused> {
-        let gone = self.world.remove(known(iface)?, addr);
-        Ok(gone.map(|s| self.shown(s)))
-    }
-
-    fn clear(&mut self, iface: u8) -> Result<(), Refused> {
-        self.world.clear(known(iface)?);
-        Ok(())
-    }
-
-    fn sweep(&mut self, iface: u8, now: u64, deadline: Option<u64>) -> Result<(Vec<Event>, Option<u64>), Refused> {
-        let now = taken(now)?;
-        let (events, deadline) = self.world.sweep(known(iface)?, now, deadline.map(|t| t as u32));
-        let events = events.into_iter().map(|e| match e {
-            world::Event::Retransmit(addr) => Event::Retransmit(addr),
-            world::Event::Failed(addr) => Event::Failed(addr),
-        });
-        Ok((events.collect(), deadline.map(|t| self.outer(t))))
-    }
-
-    fn cache(&mut self) -> Vec<(u8, Addr, Entry)> {
-        let entry = |(iface, addr, state): (usize, Addr, world::State)| {
-            let state = match state {
-                world::State::Started => Entry::Started,
-                world::State::Incomplete(probes, due) => Entry::Incomplete(probes, self.outer(due)),
-                world::State::Reachable(mac, t) => Entry::Reachable(mac, self.outer(t)),
-                world::State::Stale(mac) => Entry::Stale(mac),
-            };
-            (iface as u8, addr, state)
-        };
-        self.world.entries().into_iter().map(entry).collect()
-    }
-
-    fn push(&mut self, iface: u8, addr: Addr, handle: u32) -> Result<Option<u32>, Refused> {
-        let dropped = self.world.push(known(iface)?, addr, handle);
-        assert!(dropped.len() <= 1);
-        Ok(dropped.first().copied())
-    }
-
-    fn release(&mut self, iface: u8, addr: Addr) -> Result<Option<u32>, Refused> {
-        Ok(self.world.pop(known(iface)?, addr))
-    }
-
-    fn orphans(&mut self) -> Vec<u32> {
-        self.world.purge_orphans()
-    }
-
-    fn purge(&mut self, iface: u8) -> Result<Vec<u32>, Refused> {
-        Ok(self.world.purge_iface(known(iface)?))
-    }
-
-    fn queue(&mut self) -> Vec<(u8, Addr, u32)> {
-        let entry = |(iface, addr, handle): (usize, Addr, u32)| (iface as u8, addr, handle);
-        self.world.waiting().into_iter().map(entry).collect()
-    }
-
-    fn add_address(&mut self, iface: u8, addr: Addr, len: u64) -> Result<(), Refused> {
-        let iface = known(iface)?;
-        if len > 128 {
-            return Err(14);
-        }
-        let len = len as u8;
-        if self.world.addresses(iface).iter().any(|(a, l, ..)| (*a, *l) == (addr, len)) {
-            return Err(9);
-        }
-        if self.world.push_static(iface, addr, len) { Ok(()) } else { Err(8) }
-    }
-
-    fn add_route(&mut self, iface: u8, via: Addr) -> Result<(), Refused> {
-        let known = known(iface)?;
-        let same = |r: &(u8, Addr, bool, Option<u64>)| r.0 == iface && r.1 == via && !r.2;
-        if self.routes().iter().any(same) {
-            return Err(9);
-        }
-        if self.world.push_route(known, via) { Ok(()) } else { Err(8) }
-    }
-
-    fn link(&mut self, iface: u8, up: bool) -> Result<(), Refused> {
-        self.world.set_link(known(iface)?, up);
-        Ok(())
-    }
-
-    fn restart(&mut self, iface: u8) -> Result<(), Refused> {
-        self.world.restart(known(iface)?);
-        Ok(())
-    }
-
-    /// The real `set_slaac` starts afresh when SLAAC is on; document 01 has it do nothing then.
-    fn turn_on(&mut self, iface: u8) -> Result<(), Refused> {
-        let iface = known(iface)?;
-        if !self.world.is_on(iface) {
-            self.world.turn_on(iface);
-        }
-        Ok(())
-    }
-
-    fn turn_off(&mut self, iface: u8) -> Result<(), Refused> {
-        self.world.turn_off(known(iface)?);
-        self.world.dropped();
-        Ok(())
-    }
-
-    fn advertise(&mut self, iface: u8, source: Addr, now: u64, message: &[u8]) -> Result<bool, Refused> {
-        let now = taken(now)?;
-        let iface = known(iface)?;
-        if !self.world.is_on(iface) {
-            return Ok(false);
-        }
-        if !world::is_advertisement(message) {
-            return Err(5);
-        }
-        if !(source[0] == 0xfe && source[1] & 0xc0 == 0x80) {
-            return Err(6);
-        }
-        match self.world.advertise(iface, source, message, now) {
-            world::Advert::Taken => Ok(true),
-            world::Advert::Off => Ok(false),
-            world::Advert::Malformed => Err(1),
-        }
-    }
-
-    fn poll(
-        &mut self,
-        iface: u8,
-        now: u64,
-        deadline: Option<u64>,
-        room: u64,
-    ) -> Result<(Polled, Option<u64>), Refused> {
-        let now = taken(now)?;
-        let (polled, deadline) = self.world.poll(known(iface)?, now, deadline.map(|t| t as u32), room >= 16);
-        let polled = match polled {
-            world::Poll::Off => Polled::Off,
-            world::Poll::Nothing => Polled::Nothing,
-            world::Poll::NoRoom => Polled::NoRoom,
-            world::Poll::Solicit(message) => Polled::Solicit(message),
-        };
-        Ok((polled, deadline.map(|t| self.outer(t))))
-    }
-
-    fn soliciting(&mut self, iface: u8) -> Result<Option<Soliciting>, Refused> {
-        let Some(Solicitor {
-            phase,
-            left,
-            sync,
-            seen,
-            managed,
-            other,
-        }) = self.world.solicitor(known(iface)?)
-        else {
-            return Ok(None);
-        };
-        let phase = match phase {
-            Phase::Start => Phased::Start,
-            Phase::Discovering(t) => Phased::Discovering(self.outer(t)),
-            Phase::Maintaining => Phased::Maintaining,
-            Phase::None => unreachable!("a solicitation is never sent with none left"),
-        };
-        Ok(Some(Soliciting {
-            phase,
-            left,
-            sync,
-            seen,
-            managed,
-            other,
-        }))
-    }
-
-    fn prefixes(&mut self, iface: u8) -> Result<Vec<(Addr, u8, Option<u64>, Option<u64>)>, Refused> {
-        let entry = |(p, len, preferred, valid)| (p, len, Some(self.outer(preferred)), Some(self.outer(valid)));
-        Ok(self.world.prefixes(known(iface)?).into_iter().map(entry).collect())
-    }
-
-    fn routers(&mut self, iface: u8) -> Result<Vec<(Addr, u64)>, Refused> {
-        let entry = |(r, t)| (r, self.outer(t));
-        Ok(self.world.routers(known(iface)?).into_iter().map(entry).collect())
-    }
-
-    fn addresses(&mut self, iface: u8) -> Result<Vec<(Addr, u8, bool, Preferred)>, Refused> {
-        let entry = |(a, len, slaac, kept)| {
-            let preferred = match kept {
-                Kept::Always => Preferred::Always,
-                Kept::Until(t) => Preferred::Until(Some(self.outer(t))),
-                Kept::Never => Preferred::Never,
-            };
-            (a, len, slaac, preferred)
-        };
-        Ok(self.world.addresses(known(iface)?).into_iter().map(entry).collect())
-    }
-
-    fn routes(&mut self) -> Vec<(u8, Addr, bool, Option<u64>)> {
-        let entry = |(iface, _, _, via, slaac, t): (usize, Addr, u8, Addr, bool, Option<u32>)| {
-            (iface as u8, via, slaac, t.map(|t| self.outer(t)))
-        };
-        self.world.routes().into_iter().map(entry).collect()
-    }
-}
-
-// ---- the model
-
-pub struct Modelled(pub model::Model);
-
-impl Default for Modelled {
-    fn default() -> Self {
-        Modelled(model::Model::new(0x0200_0000_0000))
-    }
-}
-
-fn big(addr: Addr) -> model::Addr {
-    model::Addr::from_be_bytes(addr)
-}
-
-fn big_mac(mac: Mac) -> model::Mac {
-    mac.iter().fold(0, |n, b| n << 8 | u64::from(*b))
-}
-
-fn small_mac(mac: model::Mac) -> Mac {
-    mac.to_be_bytes()[2..].try_into().unwrap()
-}
-
-fn done<T>(answer: model::Answer<T>) -> Result<T, Refused> {
-    match answer {
-        model::Answer::Done(t) => Ok(t),
-        model::Answer::Refused(n) => Err(n),
-        model::Answer::Off => unreachable!("not a call that answers Off"),
-    }
-}
-
-fn listed(state: model::State) -> Shown {
-    match state {
-        model::State::Started | model::State::Incomplete { .. } => Shown::Incomplete,
-        model::State::Reachable { mac, until } => Shown::Reachable(small_mac(mac), until),
-        model::State::Stale { mac } => Shown::Stale(small_mac(mac)),
-    }
-}
-
-impl Side for Modelled {
-    fn reset(&mut self, mac: Mac, _first: u64) {
-        self.0 = model::Model::new(big_mac(mac));
-    }
-
-    fn option(&mut self, bytes: &[u8]) -> Option<(Held, usize, usize)> {
-        let (kind, o) = model::read_option(bytes)?;
-        let n = |from: usize, to: usize| o[from..to].iter().fold(0u128, |n, b| n << 8 | u128::from(*b));
-        let held = match kind {
-            1 | 2 => Held::LinkLayer(kind, small_mac(n(2, 8) as u64)),
-            3 => Held::Prefix(o[2], o[3] & 0xc0, n(4, 8) as u64 * 1000, n(8, 12) as u64 * 1000, n(16, 32).to_be_bytes()),
-            5 => Held::Mtu(n(4, 8) as u32),
-            _ => Held::Other(kind),
-        };
-        Some((held, 2, o.len()))
-    }
-
-    fn write(&mut self, message: &mut [u8], place: usize, option: &ToWrite) -> Result<(), Refused> {
-        let bytes = match *option {
-            ToWrite::LinkLayer(kind, mac) => [&[kind, 1][..], &mac].concat(),
-            ToWrite::Prefix(len, flags, valid, preferred, prefix) => [
-                &[3, 4, len, flags & 0xc0][..],
-                &valid.to_be_bytes(),
-                &preferred.to_be_bytes(),
-                &[0; 4],
-                &prefix,
-            ]
-            .concat(),
-            ToWrite::Mtu(mtu) => [&[5, 1, 0, 0][..], &mtu.to_be_bytes()].concat(),
-        };
-        if model::write_at(message, place, &bytes) { Ok(()) } else { Err(4) }
-    }
-
-    fn solicit(&mut self, buffer: &mut [u8], source: Addr, mac: Mac) -> bool {
-        let Some(front) = buffer.get_mut(..16) else {
-            return false;
-        };
-        front.copy_from_slice(&model::solicitation(big(source), big_mac(mac)));
-        true
-    }
-
-    fn lookup(&mut self, iface: u8, addr: Addr) -> Result<Lookup, Refused> {
-        Ok(match done(self.0.lookup(iface as usize, big(addr)))? {
-            model::Found::Found(mac) => Lookup::Found(small_mac(mac)),
-            model::Found::Pending => Lookup::Pending,
-            model::Found::NotFound => Lookup::NotFound,
-        })
-    }
-
-    fn start(&mut self, iface: u8, addr: Addr) -> Result<(), Refused> {
-        done(self.0.start(iface as usize, big(addr)))
-    }
-
-    fn fill(&mut self, iface: u8, addr: Addr, mac: Mac, now: u64) -> Result<(), Refused> {
-        done(self.0.fill(iface as usize, big(addr), big_mac(mac), now))
-    }
-
-    fn insert(&mut self, iface: u8, addr: Addr, mac: Mac, expires: u64) -> Result<(), Refused> {
-        done(self.0.insert(iface as usize, big(addr), big_mac(mac), expires))
-    }
-
-    fn get(&mut self, iface: u8, addr: Addr) -> Result<Option<Shown>, Refused> {
-        Ok(done(self.0.get(iface as usize, big(addr)))?.map(listed))
-    }
-
-    fn remove(&mut self, iface: u8, addr: Addr) -> Result<Option<Shown>, Refused> {
-        Ok(done(self.0.remove(iface as usize, big(addr)))?.map(listed))
-    }
-
-    fn clear(&mut self, iface: u8) -> Result<(), Refused> {
-        done(self.0.clear(iface as usize))
-    }
-
-    fn sweep(&mut self, iface: u8, now: u64, deadline: Option<u64>) -> Result<(Vec<Event>, Option<u64>), Refused> {
-        let mut clock = model::Clock { now, deadline };
-        let events = done(self.0.sweep(iface as usize, &mut clock))?;
-        let events = events.into_iter().map(|e| match e {
-            model::Probe::Retransmit(addr) => Event::Retransmit(addr.to_be_bytes()),
-            model::Probe::Failed(addr) => Event::Failed(addr.to_be_bytes()),
-        });
-        Ok((events.collect(), clock.deadline))
-    }
-
-    fn cache(&mut self) -> Vec<(u8, Addr, Entry)> {
-        let entry = |n: &model::Neighbour| {
-            let state = match n.state {
-                model::State::Started => Entry::Started,
-                model::State::Incomplete { probes, due } => Entry::Incomplete(probes, due),
-                model::State::Reachable { mac, until } => Entry::Reachable(small_mac(mac), until),
-                model::State::Stale { mac } => Entry::Stale(small_mac(mac)),
-            };
-            (n.iface as u8, n.addr.to_be_bytes(), state)
-        };
-        self.0.neighbours.iter().map(entry).collect()
-    }
-
-    fn push(&mut self, iface: u8, addr: Addr, handle: u32) -> Result<Option<u32>, Refused> {
-        done(self.0.push(iface as usize, big(addr), handle))
-    }
-
-    fn release(&mut self, iface: u8, addr: Addr) -> Result<Option<u32>, Refused> {
-        done(self.0.release(iface as usize, big(addr)))
-    }
-
-    fn orphans(&mut self) -> Vec<u32> {
-        self.0.purge_orphans()
-    }
-
-    fn purge(&mut self, iface: u8) -> Result<Vec<u32>, Refused> {
-        done(self.0.purge_iface(iface as usize))
-    }
-
-    fn queue(&mut self) -> Vec<(u8, Addr, u32)> {
-        let entry = |p: &model::Packet| (p.iface as u8, p.addr.to_be_bytes(), p.handle);
-        self.0.packets.iter().map(entry).collect()
-    }
-
-    fn add_address(&mut self, iface: u8, addr: Addr, len: u64) -> Result<(), Refused> {
-        done(self.0.add_address(iface as usize, big(addr), len))
-    }
-
-    fn add_route(&mut self, iface: u8, via: Addr) -> Result<(), Refused> {
-        done(self.0.add_route(iface as usize, big(via)))
-    }
-
-    fn link(&mut self, iface: u8, up: bool) -> Result<(), Refused> {
-        self.0.set_link(known(iface)?, up);
-        Ok(())
-    }
-
-    fn restart(&mut self, iface: u8) -> Result<(), Refused> {
-        self.0.restart(known(iface)?);
-        Ok(())
-    }
-
-    fn turn_on(&mut self, iface: u8) -> Result<(), Refused> {
-        self.0.turn_on(known(iface)?);
-        Ok(())
-    }
-
-    fn turn_off(&mut self, iface: u8) -> Result<(), Refused> {
-        self.0.turn_off(known(iface)?);
-        Ok(())
-    }
-
-    fn advertise(&mut self, iface: u8, source: Addr, now: u64, message: &[u8]) -> Result<bool, Refused> {
-        match self.0.advertise(iface as usize, now, big(source), message) {
-            model::Answer::Done(()) => Ok(true),
-            model::Answer::Off => Ok(false),
-            model::Answer::Refused(n) => Err(n),
-        }
-    }
-
-    fn poll(
-        &mut self,
-        iface: u8,
-        now: u64,
-        deadline: Option<u64>,
-        room: u64,
-    ) -> Result<(Polled, Option<u64>), Refused> {
-        let mut clock = model::Clock { now, deadline };
-        let polled = match self.0.poll(iface as usize, &mut clock, room >= 16) {
-            model::Answer::Off => Polled::Off,
-            model::Answer::Refused(n) => return Err(n),
-            model::Answer::Done(model::Sent::Nothing) => Polled::Nothing,
-            model::Answer::Done(model::Sent::NoRoom) => Polled::NoRoom,
-            model::Answer::Done(model::Sent::Solicit(message)) => Polled::Solicit(message.to_vec()),
-        };
-        Ok((polled, clock.deadline))
-    }
-
-    fn soliciting(&mut self, iface: u8) -> Result<Option<Soliciting>, Refused> {
-        let slaac = &self.0.ifaces[known(iface)?].slaac;
-        Ok(slaac.as_ref().map(|s| Soliciting {
-            phase: match s.phase {
-                model::Phase::Start => Phased::Start,
-                model::Phase::Discovering { retry } => Phased::Discovering(retry),
-                model::Phase::Maintaining => Phased::Maintaining,
-            },
-            left: s.left,
-            sync: s.sync,
-            seen: s.seen,
-            managed: s.managed,
-            other: s.other,
-        }))
-    }
-
-    fn prefixes(&mut self, iface: u8) -> Result<Vec<(Addr, u8, Option<u64>, Option<u64>)>, Refused> {
-        let entry = |p: &model::Prefix| (p.addr.to_be_bytes(), p.len, p.preferred, p.valid);
-        let slaac = &self.0.ifaces[known(iface)?].slaac;
-        Ok(slaac.iter().flat_map(|s| s.prefixes.iter().map(entry)).collect())
-    }
-
-    fn routers(&mut self, iface: u8) -> Result<Vec<(Addr, u64)>, Refused> {
-        let entry = |r: &model::Router| (r.addr.to_be_bytes(), r.until);
-        let slaac = &self.0.ifaces[known(iface)?].slaac;
-        Ok(slaac.iter().flat_map(|s| s.routers.iter().map(entry)).collect())
-    }
-
-    fn addresses(&mut self, iface: u8) -> Result<Vec<(Addr, u8, bool, Preferred)>, Refused> {
-        let entry = |a: &model::Address| {
-            let preferred = match a.preferred {
-                model::Preferred::Always => Preferred::Always,
-                model::Preferred::Until(t) => Preferred::Until(t),
-                model::Preferred::Never => Preferred::Never,
-            };
-            (a.addr.to_be_bytes(), a.len, a.slaac, preferred)
-        };
-        Ok(self.0.ifaces[known(iface)?].addrs.iter().map(entry).collect())
-    }
-
-    fn routes(&mut self) -> Vec<(u8, Addr, bool, Option<u64>)> {
-        let entry = |r: &model::Route| (r.iface as u8, r.via.to_be_bytes(), r.slaac, r.until);
-        self.0.routes.iter().map(entry).collect()
-    }
-}
+/// Where a default route leads.
+const DEFAULT: (Addr, u64) = ([0; 16], 0);

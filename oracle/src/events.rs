@@ -1,12 +1,10 @@
 //! The event program of document 01 over the real code.
 //!
-//! The real code counts time in 32 bits and compares with wraparound. The host hands it the low 32 bits and reads a time
-//! back as the one at or after the smallest time that any call in the file takes. This is exact as long as all times that
-//! come up lie within 2^31 ms of that one and no lifetime of a prefix passes 1,073,741 s, where the Rust's `Duration`
-//! ends. `Outcome::outside` says when a file leaves that range.
+//! `Outcome::outside` says when a file leaves the range in which the Rust is exact (`range.rs`).
 
 use std::fmt::Write;
 
+use crate::range::{Range, link_local};
 use crate::text;
 use xarxa::world::{self, Advert, Event, Kept, Poll, Shown, World};
 
@@ -16,10 +14,8 @@ pub const LINE: usize = 4096;
 pub const LATEST: u64 = 1 << 62;
 /// Room for addresses.
 const ADDRESSES: usize = 8;
-/// The longest lifetime in seconds that the Rust holds exactly: its `Duration` ends at 2^30 ms.
-pub const LONGEST: u64 = (1 << 30) / 1000;
-/// A lifetime of all ones, infinite by request 2026-01. The Rust has none.
-const FOREVER: u64 = u32::MAX as u64;
+/// All times of a file lie within so many ms.
+const SPAN: u64 = 1 << 31;
 
 pub struct Outcome {
     pub output: String,
@@ -29,16 +25,6 @@ pub struct Outcome {
 
 /// A line that ends the output.
 struct Bad;
-
-/// Link-local as document 01 has it: fe80::/10.
-fn link_local(addr: &[u8; 16]) -> bool {
-    addr[0] == 0xfe && addr[1] & 0xc0 == 0x80
-}
-
-/// Link-local for document 01 (fe80::/10) and not for the Rust (fe80::/64).
-fn link_local_differs(addr: &[u8; 16]) -> bool {
-    link_local(addr) && addr[..8] != [0xfe, 0x80, 0, 0, 0, 0, 0, 0]
-}
 
 struct Lines<'a> {
     rest: Option<&'a [u8]>,
@@ -88,17 +74,6 @@ impl<'a> Lines<'a> {
     }
 }
 
-/// 64-bit times on the outside, 32-bit ones inside.
-struct Times {
-    first: u64,
-}
-
-impl Times {
-    fn outer(&self, time: u32) -> u64 {
-        self.first + u64::from(time.wrapping_sub(self.first as u32))
-    }
-}
-
 /// The smallest time that a call of the file takes.
 fn first_time(input: &[u8]) -> u64 {
     let mut first = None;
@@ -123,7 +98,8 @@ fn first_time(input: &[u8]) -> u64 {
 struct Host<'a> {
     lines: Lines<'a>,
     world: World,
-    times: Times,
+    range: Range,
+    /// The rule that the file leaves first, and on which line.
     outside: Option<String>,
     out: String,
 }
@@ -132,9 +108,7 @@ pub fn run(input: &[u8]) -> Outcome {
     let mut host = Host {
         lines: Lines::new(input),
         world: World::new([[2, 0, 0, 0, 0, 0]; world::IFACES]),
-        times: Times {
-            first: first_time(input),
-        },
+        range: Range::new(first_time(input), SPAN),
         outside: None,
         out: String::new(),
     };
@@ -149,24 +123,12 @@ pub fn run(input: &[u8]) -> Outcome {
 }
 
 impl Host<'_> {
-    /// The file leaves the range on this line; the first reason stays.
-    fn leaves(&mut self, rule: String) {
-        if self.outside.is_none() {
+    /// Whether the file left the range on this line.
+    fn look(&mut self) {
+        if let Some(rule) = self.range.outside.take()
+            && self.outside.is_none()
+        {
             self.outside = Some(format!("{rule} (line {})", self.lines.number));
-        }
-    }
-
-    /// The time as the Rust takes it.
-    fn inner(&mut self, time: u64) -> u32 {
-        self.note(time);
-        time as u32
-    }
-
-    /// A time that comes up.
-    fn note(&mut self, time: u64) {
-        let first = self.times.first;
-        if time < first || time - first >= 1 << 31 {
-            self.leaves(format!("times further apart than 2^31 ms: {first} and {time}"));
         }
     }
 
@@ -179,10 +141,12 @@ impl Host<'_> {
         let addresses = self.lines.count(b"addresses")?;
         for _ in 0..addresses {
             self.address()?;
+            self.look();
         }
         let events = self.lines.count(b"events")?;
         for _ in 0..events {
             self.event()?;
+            self.look();
         }
         if self.lines.take().is_some() {
             return Err(Bad);
@@ -200,9 +164,7 @@ impl Host<'_> {
         if len > 128 || table.iter().any(|(a, l, ..)| (*a, u64::from(*l)) == (addr, len)) || table.len() >= ADDRESSES {
             return Err(Bad);
         }
-        if link_local_differs(&addr) {
-            self.leaves("an address in fe80::/10 and not in fe80::/64".into());
-        }
+        self.range.address(&addr);
         assert!(self.world.push_static(0, addr, len as u8));
         Ok(())
     }
@@ -239,8 +201,8 @@ impl Host<'_> {
                 } else if !world::is_unicast(addr) || !world::is_unicast_mac(mac) {
                     self.refused(time, 2);
                 } else {
-                    self.note(time + 60_000);
-                    let now = self.inner(time);
+                    self.range.inner(time + 60_000);
+                    let now = self.range.inner(time);
                     self.world.fill(0, addr, mac, now);
                 }
             }
@@ -262,8 +224,8 @@ impl Host<'_> {
         if time > LATEST {
             return self.refused(time, 3);
         }
-        self.note(time + 4_000);
-        let now = self.inner(time);
+        self.range.inner(time + 4_000);
+        let now = self.range.inner(time);
         match self.world.poll(0, now, None, true).0 {
             Poll::Off => writeln!(self.out, "{time} off").unwrap(),
             Poll::Nothing => {}
@@ -286,48 +248,11 @@ impl Host<'_> {
         if !link_local(&source) {
             return self.refused(time, 6);
         }
-        let now = self.inner(time);
+        let now = self.range.inner(time);
         match self.world.advertise(0, source, message, now) {
             Advert::Off => unreachable!("SLAAC is on"),
-            Advert::Taken => self.note_lifetimes(time, message),
+            Advert::Taken => self.range.advertisement(time, message),
             Advert::Malformed => self.refused(time, 1),
-        }
-    }
-
-    /// Whether an advertisement that was taken stays where the Rust can be compared.
-    fn note_lifetimes(&mut self, time: u64, message: &[u8]) {
-        let lifetime = u64::from(u16::from_be_bytes([message[6], message[7]]));
-        self.note(time + 1000 * lifetime);
-        self.note(time + 60_000);
-        let mut at = 16;
-        while let Some(option) = message.get(at..)
-            && option.len() >= 8
-            && option[1] > 0
-        {
-            if option[0] == 3 && option.len() >= 32 {
-                let secs = |i: usize| u64::from(u32::from_be_bytes(option[i..i + 4].try_into().unwrap()));
-                let (valid, preferred) = (secs(4), secs(8));
-                let prefix: &[u8; 16] = option[16..32].try_into().unwrap();
-                // One that both sides skip, whatever its lifetimes: up to the longest lifetime the order of the two
-                // is the same for both.
-                let skipped = option[2] > 128
-                    || option[3] & 0x40 == 0
-                    || prefix[0] == 0xff
-                    || preferred > valid && valid <= LONGEST
-                    || link_local(prefix) && !link_local_differs(prefix);
-                if !skipped {
-                    if valid == FOREVER {
-                        self.leaves("a lifetime of all ones (2026-01)".into());
-                    } else if valid > LONGEST {
-                        self.leaves(format!("lifetime of {valid} s above {LONGEST}"));
-                    }
-                    self.note(time + 1000 * valid);
-                    if link_local_differs(prefix) {
-                        self.leaves("a prefix in fe80::/10 and not in fe80::/64".into());
-                    }
-                }
-            }
-            at += 8 * usize::from(option[1]);
         }
     }
 
@@ -335,8 +260,8 @@ impl Host<'_> {
         if time > LATEST {
             return self.refused(time, 3);
         }
-        self.note(time + 1_000);
-        let now = self.inner(time);
+        self.range.inner(time + 1_000);
+        let now = self.range.inner(time);
         for event in self.world.sweep(0, now, None).0 {
             match event {
                 Event::Retransmit(addr) => writeln!(self.out, "{time} retransmit {}", text::hex(&addr)).unwrap(),
@@ -346,7 +271,7 @@ impl Host<'_> {
     }
 
     fn state(&mut self) {
-        let (out, times, world) = (&mut self.out, &self.times, &self.world);
+        let (out, times, world) = (&mut self.out, &self.range, &self.world);
         let prefixes = world.prefixes(0);
         writeln!(out, "prefixes {}", prefixes.len()).unwrap();
         for (prefix, len, preferred, valid) in prefixes {

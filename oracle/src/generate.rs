@@ -2,7 +2,7 @@
 //! its tables hold.
 
 use model::script::{Event, apply};
-use model::{Addr, LATEST, Mac, Model, Phase, State};
+use model::{Addr, Clock, LATEST, Mac, Model, Phase, State};
 
 /// Splitmix64.
 pub struct Rng(u64);
@@ -519,7 +519,7 @@ impl Maker {
         let longest = if self.wide {
             u64::from(u32::MAX)
         } else {
-            crate::events::LONGEST.min(room.saturating_sub(1))
+            crate::range::LONGEST.min(room.saturating_sub(1))
         };
         let s = match self.rng.below(16) {
             0..=1 => 0,
@@ -573,7 +573,7 @@ impl Maker {
             4..=6 => valid,
             _ => self.rng.below(valid + 1),
         };
-        let preferred = if self.wide { preferred } else { preferred.min(crate::events::LONGEST) };
+        let preferred = if self.wide { preferred } else { preferred.min(crate::range::LONGEST) };
         // A prefix that is known and ends now.
         let (valid, preferred) = if self.rng.one_in(8) { (0, self.rng.below(20) / 18) } else { (valid, preferred) };
         let units = if self.rng.one_in(25) { 5 + self.rng.below(3) } else { 4 } as usize;
@@ -1079,58 +1079,385 @@ fn damage(rng: &mut Rng, text: String) -> Vec<u8> {
 
 // ---- single calls
 
-/// The `number`th sequence of calls of a seed, a line each.
+/// What a sequence of calls is mostly made of.
+#[derive(Clone, Copy)]
+enum Style {
+    Options,
+    Messages,
+    Clock,
+    Cache,
+    Crowd,
+    Queue,
+    Slaac,
+    Card,
+    Mixed,
+}
+
+const STYLES: &[Style] = &[
+    Style::Options,
+    Style::Messages,
+    Style::Clock,
+    Style::Cache,
+    Style::Crowd,
+    Style::Queue,
+    Style::Slaac,
+    Style::Slaac,
+    Style::Card,
+    Style::Card,
+    Style::Mixed,
+    Style::Mixed,
+];
+
+/// The `number`th sequence of calls of a seed, a line each; some do not read. With `wide` it may leave the range in which the Rust can be
+/// compared.
 pub fn calls(seed: u64, number: u64, wide: bool) -> Vec<String> {
     let mut maker = Maker::new(Rng::new(seed ^ 0x6361_6c6c, number), wide);
     let mut side = crate::calls::Modelled::default();
     let mut lines = Vec::new();
-    let first = format!("new {:012x} {}", maker.file.mac, maker.base);
-    crate::calls::answer(&mut side, &first);
-    lines.push(first);
-    let style = maker.rng.below(6);
+    let mut put = |side: &mut crate::calls::Modelled, line: String| {
+        crate::calls::answer(side, &line);
+        lines.push(line);
+    };
+    put(&mut side, format!("new {:012x} {}", maker.file.mac, maker.base));
+    let style = maker.rng.of(STYLES);
     // Few addresses, so that keys meet on several interfaces; many for a full cache.
-    if style == 2 {
+    if matches!(style, Style::Crowd) {
         maker.few = 30;
     }
-    let crowd = if maker.rng.one_in(8) { 9 } else { 0 };
+    if matches!(style, Style::Card) && !maker.rng.one_in(4) {
+        let own = LINK_LOCAL | u128::from(model::eui64(maker.file.mac));
+        put(&mut side, format!("address 0 {own:032x} 64"));
+        put(&mut side, "link 0 up".into());
+    }
+    // Some begin with a table that is full or almost.
+    let crowd = if maker.rng.one_in(4) { 7 + maker.rng.below(3) } else { 0 };
+    let crowd_of_routes = maker.rng.one_in(2);
     for i in 0..10 + maker.rng.below(80) {
         maker.model = side.0.clone();
-        let line = if i < crowd {
+        let line = if i < crowd && crowd_of_routes {
+            format!("routeto {} {:032x} 32 {:032x}", i % 4, 0x2001_0db8u128 << 96, LINK_LOCAL | u128::from(i))
+        } else if i < crowd {
             format!("address 0 {:032x} 64", 0x2001_0db8u128 << 96 | u128::from(i))
         } else {
-            maker.call(style)
+            maker.call(style, side.1)
         };
-        crate::calls::answer(&mut side, &line);
-        lines.push(line);
+        let line = match maker.rng.below(50) {
+            0 => bad_call(&mut maker.rng, &line),
+            1 => other_digits(&mut maker.rng, &line),
+            _ => line,
+        };
+        put(&mut side, line);
     }
-    for dump in ["cache", "queue", "routes"] {
+    for dump in ["cache", "neighbors", "queue", "routes", "destinations", "now"] {
         lines.push(dump.into());
     }
     for iface in 0..4 {
-        for dump in ["slaac", "prefixes", "routers", "addresses"] {
+        for dump in ["slaac", "prefixes", "routers", "addresses", "source"] {
             lines.push(format!("{dump} {iface}"));
         }
     }
     lines
 }
 
+/// A line that does not read, as a rule.
+fn bad_call(rng: &mut Rng, line: &str) -> String {
+    let fields: Vec<&str> = line.split(' ').collect();
+    // Any but the word, if there is one.
+    let field = |rng: &mut Rng| if fields.len() > 1 { 1 + rng.below(fields.len() as u64 - 1) as usize } else { 0 };
+    let with = |at: usize, text: &str| {
+        let mut fields = fields.clone();
+        fields[at] = text;
+        fields.join(" ")
+    };
+    match rng.below(18) {
+        0 => format!("x{line}"),
+        1 => with(0, &fields[0].to_uppercase()),
+        2 => with(0, &fields[0][..fields[0].len() - 1]),
+        3..=4 => fields[..fields.len() - 1].join(" "),
+        5 => format!("{line} 0"),
+        6 => {
+            let at = field(rng);
+            with(at, &format!(" {}", fields[at]))
+        }
+        7 => format!(" {line}"),
+        8 => format!("{line} "),
+        9 => {
+            let at = field(rng);
+            with(at, rng.of(&["-", "+1", "-1", "18446744073709551616", "0x1", "1,000", "99999999999999999999999"]))
+        }
+        10 => with(1.min(fields.len() - 1), rng.of(&["256", "0256", "65536"])),
+        11 => {
+            let at = field(rng);
+            with(at, &fields[at][1..])
+        }
+        12 => {
+            let at = field(rng);
+            with(at, &format!("{}0", fields[at]))
+        }
+        13 => {
+            let at = field(rng);
+            with(at, &format!("g{}", &fields[at][1..]))
+        }
+        14 => format!("{line}{}", rng.of(&["\r", "\t", "\u{e9}", "\0", "\u{a0}"])),
+        15 => line.replacen(' ', "\t", 1),
+        16 => {
+            // Around the longest line, which reads: eight bytes of word, two behind the digits.
+            let digits = LINE - "options ".len() - " 0".len() + rng.of(&[0, 2, 2, 6_000]);
+            format!("options {} 0", "0".repeat(digits))
+        }
+        _ => String::new(),
+    }
+}
+
+/// The same call with digits of upper case and leading zeros, as a rule.
+fn other_digits(rng: &mut Rng, line: &str) -> String {
+    let mut fields = line.split(' ');
+    let mut other = fields.next().unwrap_or("").to_string();
+    for field in fields {
+        let number = field.bytes().all(|b| b.is_ascii_digit()) && ![12, 32].contains(&field.len());
+        other.push(' ');
+        if number && rng.one_in(3) {
+            other += "000";
+        }
+        let digits = field.bytes().all(|b| b.is_ascii_hexdigit()) && field.len() % 2 == 0;
+        other += &if digits { field.to_uppercase() } else { field.to_string() };
+    }
+    other
+}
+
 impl Maker {
-    fn call(&mut self, style: u64) -> String {
+    fn call(&mut self, style: Style, clock: Clock) -> String {
         let iface = match self.rng.below(40) {
             0 => self.rng.of(&[4, 5, 128, 255]),
             n => n % self.rng.of(&[1, 2, 4]),
         };
         match style {
-            0 => self.option_call(),
-            1..=2 => self.cache_call(iface),
-            3 => self.queue_call(iface),
-            4 => self.slaac_call(iface),
-            _ => match self.rng.below(4) {
+            Style::Options => self.option_call(),
+            Style::Messages => self.message_call(),
+            Style::Clock => match self.rng.below(6) {
                 0 => self.cache_call(iface),
-                1 => self.queue_call(iface),
-                _ => self.slaac_call(iface),
+                1 => self.slaac_call(iface),
+                _ => self.clock_call(clock),
+            },
+            Style::Cache | Style::Crowd => self.cache_call(iface),
+            Style::Queue => self.queue_call(iface),
+            Style::Slaac => self.slaac_call(iface),
+            Style::Card => match self.rng.below(20) {
+                0 => self.queue_call(0),
+                1 => self.slaac_call(0),
+                2 => self.cache_call(iface),
+                3..=5 => self.run_call(),
+                _ => self.turn_call(),
+            },
+            Style::Mixed => match self.rng.below(12) {
+                0..=2 => self.cache_call(iface),
+                3..=5 => self.queue_call(iface),
+                6..=9 => self.slaac_call(iface),
+                10 => self.turn_call(),
+                _ => self.clock_call(clock),
             },
         }
+    }
+
+    /// Near what a clock has to compare with; inside the range if it must be.
+    fn near(&mut self, clock: Clock) -> u64 {
+        let mut times = self.deadlines();
+        times.extend([clock.now, clock.now]);
+        times.extend(clock.deadline);
+        let t = self.rng.of(&times);
+        let t = match self.rng.below(8) {
+            0 => t.saturating_add(self.rng.below(100_000)),
+            1 => t.saturating_sub(self.rng.below(100_000)),
+            _ => t.saturating_add(self.rng.below(3)).saturating_sub(1),
+        };
+        if self.wide {
+            return if self.rng.one_in(20) { self.rng.next() >> self.rng.below(64) } else { t };
+        }
+        t.clamp(self.base, self.end - 2)
+    }
+
+    fn clock_call(&mut self, clock: Clock) -> String {
+        let outside = clock.now < self.base || clock.now > self.end - 3;
+        match self.rng.below(10) {
+            _ if outside && !self.wide => {
+                let now = self.now;
+                format!("clock {now} {}", self.deadline())
+            }
+            0 => {
+                let now = self.time(Kind::Sweep);
+                let now = if self.wide { now } else { now.min(self.end - 3) };
+                format!("clock {now} {}", self.deadline())
+            }
+            1 => "now".into(),
+            2..=5 => format!("expired {}", self.near(clock)),
+            6..=8 => {
+                let t = self.near(clock);
+                // The Rust asserts that it is after now.
+                format!("schedule {}", if self.wide { t } else { t.max(clock.now + 1) })
+            }
+            _ => {
+                let spread = |rng: &mut Rng| rng.next() >> rng.below(64);
+                let (time, millis) = (spread(&mut self.rng), spread(&mut self.rng));
+                match self.rng.below(5) {
+                    0 => format!("add {time} {}", u64::MAX - time),
+                    1 => format!("add {time} {}", (u64::MAX - time).saturating_add(1 + self.rng.below(3))),
+                    2 => format!("add {time} {}", self.rng.of(&[1_000, 60_000, 1 << 30, (1 << 30) + 1, 1 << 31, u64::from(u32::MAX) * 1000])),
+                    _ => format!("add {time} {millis}"),
+                }
+            }
+        }
+    }
+
+    /// An address of any kind.
+    fn any_address(&mut self) -> Addr {
+        let low = u128::from(self.rng.next());
+        match self.rng.below(12) {
+            0 => 0,
+            1 => model::ALL_ROUTERS,
+            2 => model::ALL_ROUTERS ^ 1 << self.rng.below(128),
+            3 => 1 << self.rng.below(128),
+            4 => LINK_LOCAL | low,
+            5 if self.wide => 0xfe80 << 112 | low << 54 | 9,
+            5..=6 => self.rng.of(&[0xfe7f << 112, 0xfec0 << 112, 0xfeff << 112, 0xfdff << 112, 0xfe00 << 112]) | low,
+            7 => 0xff << 120 | low << self.rng.below(56),
+            8 => self.neighbour(),
+            _ => self.rng.of(&self.prefixes) | low,
+        }
+    }
+
+    fn message_call(&mut self) -> String {
+        let hex = |b: &[u8]| if b.is_empty() { "-".into() } else { crate::text::hex(b) };
+        match self.rng.below(20) {
+            0..=2 => format!("kind {:032x}", self.any_address()),
+            3 => {
+                let mac = self.hardware();
+                format!("hardware {mac:012x}")
+            }
+            4..=5 => {
+                let prefix = self.rng.of(&self.prefixes) | u128::from(self.rng.next() >> self.rng.below(64));
+                let len = self.rng.of(&[64, 64, 64, 63, 65, 0, 128, 129, 255, 48]);
+                format!("form {prefix:032x} {len} {:012x}", self.hardware())
+            }
+            6..=7 => {
+                let (mac, high) = (self.hardware(), u128::from(self.rng.next()));
+                let formed = high << 64 | u128::from(model::eui64(mac));
+                let addr = match self.rng.below(4) {
+                    0 => formed,
+                    1 => formed ^ 1 << self.rng.below(64),
+                    2 => formed ^ 1 << (64 + self.rng.below(64)),
+                    _ => self.any_address(),
+                };
+                if self.rng.one_in(4) {
+                    let other = if self.rng.one_in(2) { mac } else { mac ^ 1 << self.rng.below(48) };
+                    return format!("same {mac:012x} {other:012x}");
+                }
+                format!("formed {addr:032x} {mac:012x}")
+            }
+            8..=9 => {
+                let mut message = self.advertisement();
+                if message.len() >= 16 && self.rng.one_in(3) {
+                    self.spoil(&mut message);
+                }
+                format!("advert {}", hex(&message))
+            }
+            10..=14 => {
+                let mut message = self.advertisement();
+                if message.len() >= 16 && self.rng.one_in(3) {
+                    self.spoil(&mut message);
+                }
+                let mut places = vec![16, message.len(), message.len() + 1, usize::MAX];
+                let mut at = 16;
+                while let Some((_, option)) = message.get(at..).and_then(model::option_at) {
+                    at += option.len();
+                    places.push(at);
+                    places.push(at);
+                }
+                if self.rng.one_in(10) {
+                    places = vec![self.rng.below(40) as usize, 0];
+                }
+                let word = self.rng.of(&["options", "next", "next"]);
+                format!("{word} {} {}", hex(&message), self.rng.of(&places))
+            }
+            15..=17 => {
+                let mut message = self.some_message();
+                let (source, destination) = (self.any_address(), if self.rng.one_in(2) { model::ALL_ROUTERS } else { self.any_address() });
+                if message.len() >= 2 && self.rng.one_in(4) {
+                    // A word that makes the sum all ones.
+                    let at = 2 * self.rng.below(message.len() as u64 / 2) as usize;
+                    message[at..at + 2].fill(0);
+                    let word = model::checksum(source, destination, &message);
+                    message[at..at + 2].copy_from_slice(&word.to_be_bytes());
+                }
+                format!("checksum {source:032x} {destination:032x} {}", hex(&message))
+            }
+            _ => {
+                let mut message = model::solicitation(LINK_LOCAL | 1, self.file.mac).to_vec();
+                match self.rng.below(6) {
+                    0 => message[0] = self.rng.of(&[132, 134, 5]),
+                    1 => message[1] = 1 << self.rng.below(8),
+                    2 => message.truncate(self.rng.of(&[0, 1, 7, 8, 9])),
+                    _ => {}
+                }
+                let destination = if self.rng.one_in(3) { self.any_address() } else { model::ALL_ROUTERS };
+                format!("solicitation {} {destination:032x}", hex(&message))
+            }
+        }
+    }
+
+    /// Bytes of any kind: none, few, as many as a line takes.
+    fn some_message(&mut self) -> Vec<u8> {
+        let fill = self.rng.of(&[0, 0xff, 1, 1]);
+        let len = match self.rng.below(8) {
+            0 => 0,
+            1 => 1_990 + self.rng.below(10),
+            2 => 1_400,
+            _ => self.rng.below(64),
+        };
+        (0..len).map(|_| if fill == 1 { self.rng.next() as u8 } else { fill }).collect()
+    }
+
+    fn input(&mut self) -> String {
+        match self.rng.below(20) {
+            0..=6 => {
+                let now = self.time(Kind::Start);
+                let handle = if self.rng.one_in(3) { self.rng.below(4) } else { self.rng.next() >> 32 };
+                format!("{now} packet {:032x} {handle}", self.neighbour())
+            }
+            7..=10 => {
+                let now = self.time(Kind::Fill);
+                format!("{now} answer {:032x} {:012x}", self.neighbour(), self.hardware())
+            }
+            11..=13 => {
+                let now = self.time(Kind::Ra);
+                // Behind three more on one line.
+                let mut message = self.advertisement();
+                message.truncate(400);
+                let source = if self.rng.one_in(3) { self.neighbour() } else { self.router() };
+                format!("{now} advert {source:032x} {}", crate::text::hex(&message))
+            }
+            14 => format!("{} linkup", self.time(Kind::Up)),
+            _ => format!("{} timer", self.time(Kind::Poll)),
+        }
+    }
+
+    fn room(&mut self) -> u64 {
+        self.rng.of(&[0, 1, 15, 16, 16, 16, 17, 1_500, 2_048, 2_049, u64::MAX])
+    }
+
+    fn turn_call(&mut self) -> String {
+        format!("turn {} {}", self.room(), self.input())
+    }
+
+    fn run_call(&mut self) -> String {
+        let budget = self.rng.of(&[0, 1, 2, 3, 4, 4, 9, u64::MAX]);
+        let mut line = format!("run {} {budget} {}", self.room(), self.deadline());
+        // Five are too many.
+        let inputs = if self.rng.one_in(30) { 5 } else { self.rng.of(&[0, 1, 2, 3, 4, 4, 4]) };
+        for _ in 0..inputs {
+            line += " ";
+            line += &self.input();
+        }
+        line
     }
 
     fn deadline(&mut self) -> String {
@@ -1151,7 +1478,9 @@ impl Maker {
             let len = self.rng.of(&[0, 15, 16, 16, 16, 17, 40]);
             let buffer: Vec<u8> = (0..len).map(|_| self.rng.next() as u8).collect();
             let mac = if self.rng.one_in(2) { self.file.mac } else { self.rng.next() >> 16 };
-            let source = if self.rng.one_in(3) {
+            let source = if self.wide && self.rng.one_in(3) {
+                self.any_address()
+            } else if self.rng.one_in(3) {
                 LINK_LOCAL | u128::from(self.rng.next())
             } else {
                 carrying(&mut self.rng, mac)
@@ -1227,7 +1556,7 @@ impl Maker {
             13 => format!("get {iface} {:032x}", self.neighbour()),
             14 => format!("remove {iface} {:032x}", self.neighbour()),
             15 if self.rng.one_in(3) => format!("clear {iface}"),
-            16 => "cache".into(),
+            16 => self.rng.of(&["cache", "neighbors"]).into(),
             _ => {
                 let now = self.time(Kind::Sweep);
                 format!("sweep {iface} {now} {}", self.deadline())
@@ -1254,7 +1583,7 @@ impl Maker {
             0..=1 => format!("link {iface} {}", self.rng.of(&["up", "up", "down"])),
             2 => format!("restart {iface}"),
             3 => format!("on {iface}"),
-            4 if self.rng.one_in(2) => format!("off {iface}"),
+            4 => format!("off {iface}"),
             5..=7 => {
                 let own = LINK_LOCAL | u128::from(model::eui64(self.file.mac));
                 let prefix = self.rng.of(&self.prefixes);
@@ -1266,7 +1595,14 @@ impl Maker {
             }
             8..=9 => {
                 let via = self.rng.of(&self.routers) | u128::from(self.rng.below(3));
-                format!("route {iface} {via:032x}")
+                let via = if self.wide && self.rng.one_in(8) { self.any_address() } else { via };
+                let site: Addr = 0x2001_0db8 << 96;
+                let prefix = self.rng.of(&[0, site, site, site | 1 << 64]);
+                let len = self.rng.of(&[0, 32, 32, 64, 128, 129, u64::MAX]);
+                match self.rng.below(3) {
+                    0 => format!("routeto {iface} {prefix:032x} {len} {via:032x}"),
+                    _ => format!("route {iface} {via:032x}"),
+                }
             }
             10..=19 => {
                 let now = self.time(Kind::Ra);
@@ -1283,7 +1619,10 @@ impl Maker {
             35 => format!("prefixes {iface}"),
             36 => format!("routers {iface}"),
             37 => format!("addresses {iface}"),
-            38 => "routes".into(),
+            38 => match self.rng.below(3) {
+                0 => format!("source {iface}"),
+                _ => self.rng.of(&["routes", "destinations"]).into(),
+            },
             _ => self.cache_call(iface),
         }
     }

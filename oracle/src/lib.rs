@@ -4,5 +4,10 @@
 pub mod calls;
 pub mod events;
 pub mod generate;
+pub mod modelled;
+pub mod range;
+pub mod real;
+pub mod scenes;
 pub mod shrink;
 pub mod text;
+pub mod turns;

@@ -21,7 +21,7 @@ pub const IFACES: usize = 4;
 /// The largest time that a call takes.
 pub const LATEST: u64 = 1 << 62;
 
-const ALL_ROUTERS: Addr = 0xff02_0000_0000_0000_0000_0000_0000_0002;
+pub const ALL_ROUTERS: Addr = 0xff02_0000_0000_0000_0000_0000_0000_0002;
 
 pub fn is_link_local(a: Addr) -> bool {
     a >> 118 == 0xfe80 >> 6
@@ -37,6 +37,84 @@ pub fn is_unicast(a: Addr) -> bool {
 
 pub fn is_unicast_mac(m: Mac) -> bool {
     (m >> 40) & 1 == 0
+}
+
+/// An address is asked what it is.
+pub fn mark_kind(a: Addr) {
+    match a {
+        0 => mark!("calls.kind-unspecified"),
+        ALL_ROUTERS => mark!("calls.kind-all-routers"),
+        _ if is_multicast(a) => mark!("calls.kind-multicast"),
+        _ if is_link_local(a) => {
+            mark!("calls.kind-link-local");
+            if a >> 64 != 0xfe80 << 48 {
+                mark!("calls.wide-link-local");
+            }
+        }
+        _ => mark!("calls.kind-other-unicast"),
+    }
+    let nearest_multicast = a >> 120 == 0xfe || a >> 120 == 0xfd;
+    if nearest_multicast && !is_link_local(a) {
+        mark!("calls.kind-almost");
+    }
+}
+
+/// Whether it is unicast, and its EUI-64.
+pub fn hardware(m: Mac) -> (bool, u64) {
+    if is_unicast_mac(m) {
+        mark!("calls.hardware-unicast");
+    } else {
+        mark!("calls.hardware-group");
+    }
+    (is_unicast_mac(m), eui64(m))
+}
+
+/// "Only length 64 forms an address, prefix bytes 0 to 7 and then EUI-64".
+pub fn form(prefix: Addr, len: u8, mac: Mac) -> Option<Addr> {
+    if len != 64 {
+        match len {
+            63 | 65 => mark!("calls.form-nothing-by-one"),
+            129.. => mark!("calls.form-nothing-above-128"),
+            _ => mark!("calls.form-nothing"),
+        }
+        return None;
+    }
+    mark!("calls.form");
+    if prefix as u64 != 0 {
+        mark!("calls.form-low-bytes-dropped");
+    }
+    Some(prefix >> 64 << 64 | u128::from(eui64(mac)))
+}
+
+/// Whether an address ends in the EUI-64 of a hardware address.
+pub fn is_formed(addr: Addr, mac: Mac) -> bool {
+    let formed = addr as u64 == eui64(mac);
+    if formed {
+        mark!("calls.formed");
+    } else if (addr as u64 ^ eui64(mac)).count_ones() == 1 {
+        mark!("calls.formed-not-by-one-bit");
+    } else {
+        mark!("calls.formed-not");
+    }
+    formed
+}
+
+/// A length of time is added to a point in time, which stops at the last that 64 bits hold.
+pub fn later(time: u64, millis: u64) -> u64 {
+    match u128::from(time) + u128::from(millis) {
+        sum if sum > u128::from(u64::MAX) => {
+            mark!("calls.add-stops");
+            u64::MAX
+        }
+        sum => {
+            if sum == u128::from(u64::MAX) {
+                mark!("calls.add-to-the-last");
+            } else {
+                mark!("calls.add");
+            }
+            sum as u64
+        }
+    }
 }
 
 /// The clock of one poll or sweep.
@@ -64,6 +142,46 @@ impl Clock {
         }
         self.schedule(t);
         false
+    }
+
+    /// The clock is asked by itself.
+    pub fn ask(&mut self, t: u64) -> bool {
+        if self.now > LATEST {
+            mark!("calls.wide-late-clock");
+        }
+        if t == self.now {
+            mark!("calls.expired-now");
+        } else if t < self.now {
+            mark!("calls.expired");
+        } else if t - self.now == 1 {
+            mark!("calls.expired-not-by-one");
+        } else {
+            mark!("calls.expired-not");
+        }
+        if t > self.now {
+            self.mark_join(t);
+        }
+        self.expired(t)
+    }
+
+    /// A time is scheduled by itself, one that has come as well.
+    pub fn join(&mut self, t: u64) {
+        if t <= self.now {
+            mark!("calls.wide-schedule-what-has-come");
+        } else {
+            mark!("calls.schedule");
+        }
+        self.mark_join(t);
+        self.schedule(t);
+    }
+
+    fn mark_join(&self, t: u64) {
+        match self.deadline {
+            None => mark!("calls.clock-deadline"),
+            Some(d) if t < d => mark!("calls.clock-deadline-forward"),
+            Some(d) if t == d => mark!("calls.clock-deadline-equal"),
+            Some(_) => mark!("calls.clock-deadline-stays"),
+        }
     }
 }
 
@@ -153,10 +271,12 @@ pub struct Iface {
     pub slaac: Option<Slaac>,
 }
 
-/// A default route.
 #[derive(Debug, Clone, Copy, PartialEq, Eq)]
 pub struct Route {
     pub iface: usize,
+    /// Where it leads; a default route anywhere: 0 and 0.
+    pub prefix: Addr,
+    pub len: u8,
     pub via: Addr,
     pub slaac: bool,
     pub until: Option<u64>,
@@ -264,7 +384,16 @@ pub fn read_option(rest: &[u8]) -> Option<(u8, &[u8])> {
         Err("type-3") => mark!("calls.option-short-type-3"),
         Err(_) => mark!("calls.option-short-type-4"),
     }
-    if let Ok((_, option)) = read {
+    if let Ok((kind, option)) = read {
+        if kind == 3 {
+            for seconds in [be(&option[4..8]), be(&option[8..12])] {
+                match seconds {
+                    0xffff_ffff => mark!("calls.wide-forever"),
+                    1_073_742.. => mark!("calls.wide-long-lifetime"),
+                    _ => {}
+                }
+            }
+        }
         if option.len() < rest.len() {
             mark!("calls.option-with-more-behind");
         }
@@ -273,6 +402,106 @@ pub fn read_option(rest: &[u8]) -> Option<(u8, &[u8])> {
         }
     }
     read.ok()
+}
+
+/// What stands at a place of a message.
+#[derive(Debug, Clone, Copy, PartialEq, Eq)]
+pub enum Next<'a> {
+    End,
+    Malformed,
+    /// Its type and its bytes.
+    Option(u8, &'a [u8]),
+}
+
+pub fn next(message: &[u8], place: usize) -> Next<'_> {
+    if place >= message.len() {
+        if place == message.len() {
+            mark!("calls.next-end");
+        } else {
+            mark!("calls.next-past-the-end");
+        }
+        return Next::End;
+    }
+    match option_or_why(&message[place..]) {
+        Err(_) => {
+            mark!("calls.next-malformed");
+            Next::Malformed
+        }
+        Ok((kind, option)) => {
+            match kind {
+                1 => mark!("calls.next-1"),
+                2 => mark!("calls.next-2"),
+                3 => mark!("calls.next-3"),
+                4 => mark!("calls.next-4"),
+                5 => mark!("calls.next-5"),
+                _ => mark!("calls.next-unknown"),
+            }
+            if place > 0 {
+                mark!("calls.next-not-the-first");
+            }
+            Next::Option(kind, option)
+        }
+    }
+}
+
+/// "Every option is checked, and the walk is left at the first malformed one": its place.
+pub fn walk(message: &[u8], from: usize) -> Option<usize> {
+    let mut place = from;
+    let mut walked = 0;
+    while place < message.len() {
+        let Some((_, option)) = option_at(&message[place..]) else {
+            match walked {
+                0 => mark!("calls.options-malformed-first"),
+                _ => mark!("calls.options-malformed-later"),
+            }
+            return Some(place);
+        };
+        place += option.len();
+        walked += 1;
+    }
+    match walked {
+        0 => mark!("calls.options-none"),
+        1 => mark!("calls.options-one"),
+        _ => mark!("calls.options-several"),
+    }
+    None
+}
+
+/// The header of an advertisement: lifetime in seconds, managed, other.
+pub fn header(message: &[u8]) -> Answer<(u32, bool, bool)> {
+    if message.len() < 16 {
+        mark!("calls.advert-5-short");
+        return Answer::Refused(5);
+    }
+    if message[0] != 134 {
+        mark!("calls.advert-5-type");
+        return Answer::Refused(5);
+    }
+    if message[1] != 0 {
+        mark!("calls.advert-5-code");
+        return Answer::Refused(5);
+    }
+    let (managed, other) = (message[5] & 0x80 != 0, message[5] & 0x40 != 0);
+    match (managed, other) {
+        (true, true) => mark!("calls.advert-both-flags"),
+        (true, false) => mark!("calls.advert-managed"),
+        (false, true) => mark!("calls.advert-other"),
+        (false, false) => mark!("calls.advert-no-flag"),
+    }
+    Answer::Done((be(&message[6..8]) as u32, managed, other))
+}
+
+/// Whether a message is a solicitation (RFC 4861 4.1: 8 bytes at least, 133, code 0) to ff02::2.
+pub fn is_solicitation(message: &[u8], dst: Addr) -> bool {
+    let solicits = message.len() >= 8 && message[0] == 133 && message[1] == 0;
+    match (solicits, dst == ALL_ROUTERS) {
+        (true, true) => mark!("calls.solicitation"),
+        (true, false) => mark!("calls.solicitation-elsewhere"),
+        (false, _) if message.len() < 8 => mark!("calls.solicitation-short"),
+        (false, _) if message[0] != 133 => mark!("calls.solicitation-other-type"),
+        (false, _) => mark!("calls.solicitation-other-code"),
+    }
+    solicits && dst == ALL_ROUTERS
 }
 
 /// Write an option's bytes at a place in a message; false if there is no room.
@@ -324,6 +553,20 @@ pub fn checksum(src: Addr, dst: Addr, message: &[u8]) -> u16 {
         mark!("solicit.checksum-zero");
     }
     !(sum as u16)
+}
+
+/// The checksum of a message as it stands.
+pub fn checksum_of(src: Addr, dst: Addr, message: &[u8]) -> u16 {
+    match message.len() % 2 {
+        _ if message.is_empty() => mark!("calls.checksum-of-nothing"),
+        0 => mark!("calls.checksum"),
+        _ => mark!("calls.checksum-odd"),
+    }
+    let sum = checksum(src, dst, message);
+    if sum == 0 {
+        mark!("calls.checksum-zero");
+    }
+    sum
 }
 
 /// RFC 4861 4.1: a solicitation to all routers with its source's hardware address.
@@ -395,14 +638,45 @@ impl Model {
         Answer::Done(())
     }
 
-    /// A default route of the application.
-    pub fn add_route(&mut self, iface: usize, via: Addr) -> Answer<()> {
+    /// The first link-local address.
+    pub fn source(&self, iface: usize) -> Answer<Option<Addr>> {
         if iface >= IFACES {
-            mark!("calls.route-7");
+            mark!("calls.source-7");
             return Answer::Refused(7);
         }
-        if self.routes.iter().any(|r| !r.slaac && r.via == via && r.iface == iface) {
+        let addrs = &self.ifaces[iface].addrs;
+        let local = addrs.iter().position(|a| is_link_local(a.addr));
+        match local {
+            None if addrs.is_empty() => mark!("calls.source-of-none"),
+            None => mark!("calls.source-nothing"),
+            Some(0) => mark!("calls.source"),
+            Some(_) => mark!("calls.source-not-the-first"),
+        }
+        Answer::Done(local.map(|i| addrs[i].addr))
+    }
+
+    /// A route of the application; to 0 and 0, a default route.
+    pub fn add_route(&mut self, iface: usize, prefix: Addr, len: u64, via: Addr) -> Answer<()> {
+        if iface >= IFACES {
+            mark!("calls.route-7");
+            if len > 128 {
+                mark!("calls.routeto-7-before-14");
+            }
+            return Answer::Refused(7);
+        }
+        if len > 128 {
+            mark!("calls.routeto-14");
+            if self.routes.len() == ROUTES {
+                mark!("calls.routeto-14-before-8");
+            }
+            return Answer::Refused(14);
+        }
+        let same = |r: &Route| !r.slaac && r.prefix == prefix && u64::from(r.len) == len && r.via == via && r.iface == iface;
+        if self.routes.iter().any(same) {
             mark!("calls.route-9");
+            if len > 0 {
+                mark!("calls.routeto-9");
+            }
             if self.routes.len() == ROUTES {
                 mark!("calls.route-9-before-8");
             }
@@ -412,12 +686,29 @@ impl Model {
             mark!("calls.route-8");
             return Answer::Refused(8);
         }
-        mark!("calls.route");
-        if self.routes.iter().any(|r| r.slaac && r.via == via && r.iface == iface) {
+        if (prefix, len) == (0, 0) {
+            mark!("calls.route");
+        } else {
+            mark!("calls.routeto");
+        }
+        if !is_unicast(via) {
+            mark!("calls.wide-route-by-group");
+        }
+        let same_way = |r: &&Route| r.via == via && r.iface == iface;
+        if self.routes.iter().filter(same_way).any(|r| r.slaac) {
             mark!("calls.route-beside-slaac");
+        }
+        for r in self.routes.iter().filter(same_way).filter(|r| !r.slaac) {
+            match (r.prefix == prefix, u64::from(r.len) == len) {
+                (true, false) => mark!("calls.routeto-of-other-length"),
+                (false, true) => mark!("calls.routeto-of-other-prefix"),
+                _ => {}
+            }
         }
         self.routes.push(Route {
             iface,
+            prefix,
+            len: len as u8,
             via,
             slaac: false,
             until: None,
@@ -961,6 +1252,8 @@ impl Model {
                         mark!("sync.route-appended");
                         self.routes.push(Route {
                             iface,
+                            prefix: 0,
+                            len: 0,
                             via: r.addr,
                             slaac: true,
                             until: Some(r.until),
@@ -1253,6 +1546,24 @@ impl Model {
             Some(State::Stale { .. }) => mark!("calls.get-stale"),
         }
         Answer::Done(self.find(iface, addr).map(|i| self.neighbours[i].state))
+    }
+
+    /// All entries, in table order.
+    pub fn listing(&self) -> &[Neighbour] {
+        for n in &self.neighbours {
+            match n.state {
+                State::Started => mark!("calls.neighbors-started"),
+                State::Incomplete { .. } => mark!("calls.neighbors-incomplete"),
+                State::Reachable { .. } => mark!("calls.neighbors-reachable"),
+                State::Stale { .. } => mark!("calls.neighbors-stale"),
+            }
+        }
+        match self.neighbours.len() {
+            0 => mark!("calls.neighbors-none"),
+            NEIGHBOURS => mark!("calls.neighbors-full"),
+            _ => {}
+        }
+        &self.neighbours
     }
 
     pub fn remove(&mut self, iface: usize, addr: Addr) -> Answer<Option<State>> {

@@ -42,3 +42,8 @@ impl Slaac {
         core::mem::replace(&mut self.state.routers_seen, seen)
     }
 }
+
+/// The address that a prefix and a hardware address form.
+pub(crate) fn probe_form(prefix: &Ipv6Cidr, hardware_addr: HardwareAddress) -> Option<Ipv6Cidr> {
+    from_link_prefix(prefix, hardware_addr)
+}

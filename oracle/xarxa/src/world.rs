@@ -5,17 +5,19 @@ use std::cell::Cell;
 use std::panic::{AssertUnwindSafe, catch_unwind};
 
 use crate::driver::{self, Capabilities, ChecksumCapabilities, Driver, LinkState, PacketBuf};
-use crate::iface::slaac::{ProbePhase, SlaacConfig};
+use crate::iface::slaac::{ProbePhase, SlaacConfig, probe_form};
 use crate::iface::{AddrOrigin, IfaceAddr, IfaceHandle, IfaceState, Medium, Preferred};
 use crate::neighbor::{Answer, NeighborCache, PendingQueue, ProbeEvent, ProbeState};
 use crate::pool::Pool;
-use crate::route::{RouteOrigin, Routes};
+pub use crate::route::RouteError;
+use crate::route::{Route, RouteOrigin, Routes};
 use crate::stack::{Stack, StackInner};
 use crate::storage::{MaybeBox, Slab, Vec as StoreVec};
 use crate::time::{Clock, Duration, Instant};
 use crate::wire::{
-    EthernetAddress, HardwareAddress, Icmpv6Message, Icmpv6Packet, IpAddr, IpCidr, Ipv6Addr, NdiscOption,
-    NdiscOptionType, NdiscPrefixInfoFlags, RawHardwareAddress,
+    EthernetAddress, HardwareAddress, IPV6_LINK_LOCAL_ALL_ROUTERS, Icmpv6Message, Icmpv6Packet, IpAddr, IpCidr,
+    IpProtocol, Ipv6Addr, Ipv6AddrExt, Ipv6Cidr, NdiscOption, NdiscOptionType, NdiscPrefixInfoFlags,
+    NdiscRouterFlags, RawHardwareAddress, checksum,
 };
 
 pub type Addr = [u8; 16];
@@ -161,13 +163,112 @@ pub fn is_unicast_mac(addr: Mac) -> bool {
     hw(addr).is_unicast()
 }
 
+/// What kind of address it is, by the real tests.
+#[derive(Debug, Clone, Copy, PartialEq, Eq)]
+pub struct AddrKind {
+    pub unicast: bool,
+    pub multicast: bool,
+    /// fe80::/64.
+    pub link_local: bool,
+    pub unspecified: bool,
+    pub all_routers: bool,
+}
+
+pub fn kind(addr: Addr) -> AddrKind {
+    let addr = v6(addr);
+    AddrKind {
+        unicast: addr.x_is_unicast(),
+        multicast: addr.is_multicast(),
+        link_local: addr.is_link_local(),
+        unspecified: addr.is_unspecified(),
+        all_routers: addr == IPV6_LINK_LOCAL_ALL_ROUTERS,
+    }
+}
+
+/// The real EUI-64 of a hardware address.
+pub fn eui_64(addr: Mac) -> [u8; 8] {
+    hw(addr).as_eui_64().unwrap()
+}
+
+/// The real address of a prefix, whose length is at most 128, and a hardware address.
+pub fn form(prefix: Addr, len: u8, mac: Mac) -> Option<Addr> {
+    let formed = probe_form(&Ipv6Cidr::new(v6(prefix), len), hw(mac))?;
+    assert_eq!(formed.prefix_len(), 64);
+    Some(formed.address().octets())
+}
+
 /// The real length check, type and code of an advertisement: document 01's number 5 if false.
 pub fn is_advertisement(message: &[u8]) -> bool {
+    advertisement(message).is_some()
+}
+
+/// Lifetime in seconds, managed, other: by the real checks and getters.
+pub fn advertisement(message: &[u8]) -> Option<(u32, bool, bool)> {
+    let mut message = message.to_vec();
+    let packet = Icmpv6Packet::new_checked(&mut message).ok()?;
+    if packet.msg_type() != Icmpv6Message::RouterAdvert || packet.msg_code() != 0 {
+        return None;
+    }
+    let flags = packet.router_flags();
+    let (managed, other) = (flags.contains(NdiscRouterFlags::MANAGED), flags.contains(NdiscRouterFlags::OTHER));
+    Some((packet.router_lifetime().as_secs(), managed, other))
+}
+
+/// The Rust has no such function: the real length check and type, the code, and the real ff02::2.
+pub fn is_solicitation(message: &[u8], dst: Addr) -> bool {
     let mut message = message.to_vec();
     match Icmpv6Packet::new_checked(&mut message) {
-        Ok(packet) => packet.msg_type() == Icmpv6Message::RouterAdvert && packet.msg_code() == 0,
+        Ok(packet) => {
+            let solicits = packet.msg_type() == Icmpv6Message::RouterSolicit && packet.msg_code() == 0;
+            solicits && v6(dst) == IPV6_LINK_LOCAL_ALL_ROUTERS
+        }
         Err(_) => false,
     }
+}
+
+/// The real checksum of a message as it stands. Where its checksum field is zero, the real `fill_checksum` must say the same.
+pub fn checksum(src: Addr, dst: Addr, message: &[u8]) -> u16 {
+    let (src, dst) = (v6(src), v6(dst));
+    let sum = !checksum::combine(&[
+        checksum::pseudo_header_v6(&src, &dst, IpProtocol::Icmpv6, message.len() as u32),
+        checksum::data(message),
+    ]);
+    if message.len() >= 4 && message[2..4] == [0, 0] {
+        let mut message = message.to_vec();
+        let mut packet = Icmpv6Packet::new_unchecked(&mut message);
+        packet.fill_checksum(&src, &dst);
+        assert_eq!(packet.checksum(), sum);
+    }
+    sum
+}
+
+// ---- the clock
+
+/// What the real clock says that it is.
+pub fn clock_now(now: u32) -> u32 {
+    Clock::probe(at(now), None).now().as_millis()
+}
+
+/// Whether the real clock says that a time has come, and its deadline afterwards.
+pub fn clock_expired(now: u32, deadline: Option<u32>, time: u32) -> (bool, Option<u32>) {
+    let mut clock = Clock::probe(at(now), deadline.map(at));
+    let expired = clock.expired(at(time));
+    (expired, clock.probe_deadline().map(|t| t.as_millis()))
+}
+
+/// The real clock's deadline after a time was scheduled, which must be after now.
+pub fn clock_schedule(now: u32, deadline: Option<u32>, time: u32) -> Option<u32> {
+    let mut clock = Clock::probe(at(now), deadline.map(at));
+    clock.schedule(at(time));
+    clock.probe_deadline().map(|t| t.as_millis())
+}
+
+/// The longest duration of the Rust, in ms.
+pub const LONGEST: u32 = Duration::MAX.as_millis();
+
+/// The real addition; `millis` is at most `LONGEST`.
+pub fn add(time: u32, millis: u32) -> u32 {
+    (at(time) + Duration::from_millis(millis)).as_millis()
 }
 
 thread_local! {
@@ -285,7 +386,7 @@ impl World {
 
     /// Interface, prefix, length, via, whether SLAAC's, expiry.
     pub fn routes(&self) -> Vec<(usize, Addr, u8, Addr, bool, Option<u32>)> {
-        let entry = |r: &crate::route::Route| {
+        let entry = |r: &Route| {
             (
                 r.iface.index(),
                 octets(r.cidr.address()),
@@ -298,10 +399,16 @@ impl World {
         self.stack.inner.routes.iter().map(entry).collect()
     }
 
-    /// Put an application's default route into the table, if there is room.
-    pub fn push_route(&mut self, iface: usize, via: Addr) -> bool {
-        let route = crate::route::Route::new_ipv6_gateway(v6(via), IfaceHandle::new(iface));
-        self.stack.inner.routes.add(route).is_ok()
+    /// Add an application's route by the real call, which refuses a full table, and a router that is not unicast.
+    pub fn add_route(&mut self, iface: usize, prefix: Addr, len: u8, via: Addr) -> Result<(), RouteError> {
+        let mut route = Route::new_ipv6_gateway(v6(via), IfaceHandle::new(iface));
+        route.cidr = IpCidr::new(ip(prefix), len);
+        self.stack.inner.routes.add(route)
+    }
+
+    /// The first link-local address.
+    pub fn source(&self, iface: usize) -> Option<Addr> {
+        self.state(iface).link_local_ipv6_address().map(|addr| addr.octets())
     }
 
     // ---- SLAAC

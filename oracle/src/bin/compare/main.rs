@@ -6,14 +6,17 @@ use std::path::{Path, PathBuf};
 use std::process::{Command, exit};
 use std::time::Instant;
 
+use calls::Calls;
 use oracle::{events, generate};
 
 const USAGE: &str = "compare [OPTION..] PATH..           these files, and the files in these folders but the .out ones: one line a file
 compare [OPTION..]                  generated files, up to the first difference
 compare [OPTION..] --recorded FOLDER  the answers N.out of FOLDER against the other side's on N.in
-compare [OPTION..] --calls          sequences of single calls, the Rust against the model
+compare [OPTION..] --calls [PATH..]   the same of single calls: call files, or sequences by chance, against target/bin/calls
+compare [OPTION..] --calls --recorded FOLDER  the answers N.answers of FOLDER against the other side's on N.calls
 
   --events PROGRAM  the program on the other side, in place of target/bin/events
+  --calls-program PROGRAM  with --calls: the program on the other side, in place of target/bin/calls
   --model           the model on the other side
   --rust            the Rust on the other side: with --recorded
   --wide            the model in place of the Rust, on files outside the Rust's range as well
@@ -34,6 +37,8 @@ macro_rules! say {
         }
     };
 }
+
+mod calls;
 
 fn stop(why: &str) -> ! {
     eprintln!("compare: {why}");
@@ -64,7 +69,7 @@ impl Program {
         Program { command, scratch }
     }
 
-    /// The event program as `run` starts it: under the kit's loader and C library, elsewhere than on x86-64 under its emulator. Where
+    /// A program of the repository as `run` starts it: under the kit's loader and C library, elsewhere than on x86-64 under its emulator. Where
     /// there is no kit it is started by itself.
     fn proved(path: PathBuf) -> Program {
         let rt = || {
@@ -260,7 +265,7 @@ fn main() {
     xarxa::world::quiet_expected_panics();
     let root = Path::new(env!("CARGO_MANIFEST_DIR")).join("..");
     let (mut count, mut seed, mut first) = (10_000u64, 1u64, 0u64);
-    let (mut program, mut recorded, mut keep) = (None, None, None);
+    let (mut program, mut calls_program, mut recorded, mut keep) = (None, None, None, None);
     let (mut use_model, mut use_rust, mut wide, mut all, mut calls, mut rules) = (false, false, false, false, false, false);
     let mut paths = Vec::new();
     let mut args = std::env::args_os().skip(1);
@@ -272,6 +277,7 @@ fn main() {
             "-s" => seed = number(),
             "--first" => first = number(),
             "--events" => program = Some(PathBuf::from(value())),
+            "--calls-program" => calls_program = Some(PathBuf::from(value())),
             "--model" => use_model = true,
             "--rust" => use_rust = true,
             "--wide" => wide = true,
@@ -289,31 +295,45 @@ fn main() {
         }
     }
     let kept = keep.clone().unwrap_or_else(|| Path::new(env!("CARGO_MANIFEST_DIR")).join("kept"));
-    if calls {
-        return compare_calls(seed, first, count, &kept, rules);
-    }
     if use_rust && recorded.is_none() || use_model && (wide || use_rust) {
         usage()
     }
     let root = root.canonicalize().unwrap_or(root);
-    let built = root.join("target/bin/events");
+    let (name, option, program) = match calls {
+        true => ("calls", "--calls-program", calls_program),
+        false => ("events", "--events", program),
+    };
+    let built = root.join("target/bin").join(name);
     let other = match program {
         _ if use_model => Other::Model,
         _ if use_rust => Other::Rust,
         Some(path) if !path.is_file() => stop(&format!("no program {}", path.display())),
         Some(path) => Other::Program(Program::new(vec![path.canonicalize().unwrap_or(path)])),
         None if built.is_file() => Other::Program(Program::proved(built)),
-        None => stop("target/bin/events is not built: `rt check events` in the repository builds it (or give --events PROGRAM, or --model)"),
+        None => stop(&format!(
+            "target/bin/{name} is not built: `rt check {name}` in the repository builds it (or give {option} PROGRAM, or --model)"
+        )),
     };
     if let Some(folder) = recorded {
-        exit(compare_recorded(&folder, &other, all))
+        exit(match calls {
+            true => Calls { wide, other }.recorded(&folder, all),
+            false => compare_recorded(&folder, &other, all),
+        })
     }
-    let compare = Compare { wide, other };
     let left = if wide { "the model" } else { "the Rust" };
-    match &compare.other {
+    match &other {
         Other::Program(program) => eprintln!("{left} against {}", program.command.last().unwrap().display()),
         _ => eprintln!("{left} against the model"),
     }
+    if calls {
+        let compare = Calls { wide, other };
+        exit(if paths.is_empty() {
+            compare.generated(seed, first, count, &kept, all, rules)
+        } else {
+            compare.paths(&paths, keep.as_deref(), rules)
+        })
+    }
+    let compare = Compare { wide, other };
     exit(if paths.is_empty() {
         compare_generated(&compare, seed, first, count, &kept, all, rules)
     } else {
@@ -348,15 +368,22 @@ fn compare_generated(compare: &Compare, seed: u64, first: u64, count: u64, kept:
     sum.status()
 }
 
-/// The files that a path names: itself, or those in the folder, by name, without the .out ones.
-fn files(path: &Path) -> std::io::Result<Vec<PathBuf>> {
+/// Whether a file of a folder is answers, or the input of the other kind.
+fn is_passed_over(file: &Path, calls: bool) -> bool {
+    let end = file.extension().unwrap_or_default().to_string_lossy();
+    let other = if calls { "in" } else { "calls" };
+    end == "out" || end == other || end.starts_with("answers")
+}
+
+/// The files that a path names: itself, or those in the folder, by name, without the answers.
+fn files(path: &Path, calls: bool) -> std::io::Result<Vec<PathBuf>> {
     if !fs::metadata(path)?.is_dir() {
         return Ok(vec![path.to_path_buf()]);
     }
     let mut files = Vec::new();
     for entry in fs::read_dir(path)? {
         let file = entry?.path();
-        if !file.is_dir() && file.extension().is_none_or(|e| e != "out") {
+        if !file.is_dir() && !is_passed_over(&file, calls) {
             files.push(file);
         }
     }
@@ -368,7 +395,7 @@ fn files(path: &Path) -> std::io::Result<Vec<PathBuf>> {
 fn compare_paths(compare: &Compare, paths: &[PathBuf], keep: Option<&Path>, rules: bool) -> i32 {
     let mut sum = Sum::default();
     for path in paths {
-        let named = files(path).unwrap_or_else(|e| {
+        let named = files(path, false).unwrap_or_else(|e| {
             say!("unread {}: {e}", path.display());
             sum.unread += 1;
             Vec::new()
@@ -407,7 +434,7 @@ fn compare_paths(compare: &Compare, paths: &[PathBuf], keep: Option<&Path>, rule
 /// How many rules fired, and if asked which did not: those of event files, or those of single calls. Infinite lifetimes are outside the
 /// Rust's range.
 fn print_rules(fired: &[u64], calls: bool, wide: bool, list: bool) {
-    let of_kind = |name: &str| name.starts_with("calls.") == calls && (wide || !name.starts_with("forever."));
+    let of_kind = |name: &str| name.starts_with("calls.") == calls && (wide || !name.starts_with("forever.") && !name.starts_with("calls.wide-"));
     let times = |i: usize| fired.get(i).copied().unwrap_or(0);
     let rules: Vec<(&str, u64)> = model::marks::names()
         .iter()
@@ -451,38 +478,4 @@ fn compare_recorded(folder: &Path, other: &Other, all: bool) -> i32 {
         (0, 0) => 2,
         _ => 0,
     }
-}
-
-/// Single calls: the Rust against the model.
-fn compare_calls(seed: u64, first: u64, count: u64, keep: &Path, rules: bool) {
-    use oracle::calls::{Modelled, Real, answer};
-    let mut fired = vec![0u64; model::marks::names().len()];
-    let mut lines = 0u64;
-    let began = Instant::now();
-    for n in first..first + count {
-        let calls = generate::calls(seed, n, false);
-        model::marks::take();
-        let (mut real, mut modelled) = (Real::default(), Modelled::default());
-        for (i, line) in calls.iter().enumerate() {
-            let (l, r) = (answer(&mut real, line), answer(&mut modelled, line));
-            lines += 1;
-            if l != r {
-                say!("sequence {seed} {n}, line {}: {line}\n- {l}    (rust)\n+ {r}    (model)", i + 1);
-                fs::create_dir_all(keep).unwrap();
-                let path = keep.join(format!("calls-{seed}-{n}"));
-                fs::write(&path, calls[..=i].join("\n") + "\n").unwrap();
-                say!("kept: {}", path.display());
-                exit(1)
-            }
-            if l == "bad line" {
-                say!("bad line: {line}");
-                exit(1)
-            }
-        }
-        for (sum, n) in fired.iter_mut().zip(model::marks::take()) {
-            *sum += u64::from(n);
-        }
-    }
-    say!("{count} sequences, {lines} calls equal; {:.1} s", began.elapsed().as_secs_f64());
-    print_rules(&fired, true, false, rules);
 }
