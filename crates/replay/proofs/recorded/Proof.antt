@@ -1,22 +1,19 @@
-use Prim.Native.Nat.{_-_, _≤_}
 use borrow.Author.Needs.{needs}
+use Prim.Native.Nat.{_-_, _≤_}
 use Rattle.replay.proofs.recorded.Statement.{statement}
 use Rattle.replay.proofs.recorded.Tie as tie
 
 abbrev Inv-loop : tie.InvT-loop
-Inv-loop number₀ same₀ t3 t4 t5 t6 number same = number ≤ 100000
+Inv-loop kind suffix what number₀ same₀ t6 t7 number same = number ≤ 100000
 
 abbrev μ-loop : tie.MeasureT-loop
-μ-loop number₀ same₀ t3 t4 t5 t6 number same = 100000 - number
+μ-loop kind suffix what number₀ same₀ t6 t7 number same = 100000 - number
 
 loop-holds : tie.Need-loop-holds Inv-loop μ-loop
 loop-holds c = search needs
 
 add-one-case : tie.Need-add-one-case Inv-loop μ-loop
 add-one-case c = search needs
-
-slice-aggregate-one-case : tie.Need-slice-aggregate-one-case Inv-loop μ-loop
-slice-aggregate-one-case c = search needs
 
 one-case-requires : tie.Need-one-case-requires Inv-loop μ-loop
 one-case-requires c κs = search needs
@@ -63,9 +60,6 @@ loop-less c = search needs
 loop-again : tie.Need-loop-again Inv-loop μ-loop
 loop-again c = search needs
 
-slice-aggregate-count : tie.Need-slice-aggregate-count Inv-loop μ-loop
-slice-aggregate-count c = search needs
-
 count-requires : tie.Need-count-requires Inv-loop μ-loop
 count-requires c κs = search needs
 
@@ -80,7 +74,6 @@ recorded-spec =
     μ-loop
     loop-holds
     add-one-case
-    slice-aggregate-one-case
     one-case-requires
     enum-told
     wrapping-add-u64-requires
@@ -96,6 +89,5 @@ recorded-spec =
     add-number
     loop-less
     loop-again
-    slice-aggregate-count
     count-requires
     returns)
