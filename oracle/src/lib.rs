@@ -3,6 +3,7 @@
 
 pub mod calls;
 pub mod events;
+pub mod folder;
 pub mod generate;
 pub mod modelled;
 pub mod range;

@@ -2,7 +2,7 @@
 
 use std::collections::HashSet;
 use std::fs;
-use std::path::{Path, PathBuf};
+use std::path::PathBuf;
 use std::process::exit;
 
 use oracle::{events, generate, shrink};
@@ -552,33 +552,7 @@ impl Record {
 
 fn main() {
     xarxa::world::quiet_expected_panics();
-    let (mut folder, mut seed, mut candidates) = (None, 1u64, 60_000u64);
-    let mut args = std::env::args().skip(1);
-    while let Some(arg) = args.next() {
-        let mut number = || args.next().and_then(|a| a.parse().ok());
-        let known = match arg.as_str() {
-            "-s" => number().map(|n| seed = n),
-            "-n" => number().map(|n| candidates = n),
-            a if a.starts_with('-') => None,
-            a => {
-                folder = Some(PathBuf::from(a));
-                Some(())
-            }
-        };
-        if known.is_none() {
-            eprintln!("{USAGE}");
-            exit(2)
-        }
-    }
-    let Some(folder) = folder else {
-        eprintln!("{USAGE}");
-        exit(2)
-    };
-    if Path::new(&folder).read_dir().is_ok_and(|mut d| d.next().is_some()) {
-        eprintln!("{} is not empty", folder.display());
-        exit(2)
-    }
-    fs::create_dir_all(&folder).unwrap();
+    let (folder, seed, candidates) = oracle::folder::arguments(USAGE, 60_000);
     let mut record = Record {
         folder,
         seen: HashSet::new(),

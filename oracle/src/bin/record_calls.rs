@@ -7,6 +7,7 @@ use std::process::exit;
 
 use oracle::calls::{self, Modelled, Real, Side};
 use oracle::events::LINE;
+use oracle::folder;
 use oracle::generate;
 use oracle::scenes::{self, Scene};
 
@@ -195,40 +196,9 @@ fn large(seed: u64, first: u64) -> Vec<u8> {
     all
 }
 
-fn arguments() -> (PathBuf, u64, u64) {
-    let (mut folder, mut seed, mut candidates) = (None, 1u64, 20_000u64);
-    let mut args = std::env::args().skip(1);
-    while let Some(arg) = args.next() {
-        let mut number = || args.next().and_then(|a| a.parse().ok());
-        let known = match arg.as_str() {
-            "-s" => number().map(|n| seed = n),
-            "-n" => number().map(|n| candidates = n),
-            a if a.starts_with('-') => None,
-            a => {
-                folder = Some(PathBuf::from(a));
-                Some(())
-            }
-        };
-        if known.is_none() {
-            eprintln!("{USAGE}");
-            exit(2)
-        }
-    }
-    let Some(folder) = folder else {
-        eprintln!("{USAGE}");
-        exit(2)
-    };
-    (folder, seed, candidates)
-}
-
 fn main() {
     xarxa::world::quiet_expected_panics();
-    let (folder, seed, candidates) = arguments();
-    if folder.read_dir().is_ok_and(|mut d| d.next().is_some()) {
-        eprintln!("{} is not empty", folder.display());
-        exit(2)
-    }
-    fs::create_dir_all(&folder).unwrap();
+    let (folder, seed, candidates) = folder::arguments(USAGE, 20_000);
     let mut record = Record {
         folder,
         number: 0,
