@@ -12,7 +12,7 @@ use Rattle.wire.specs.Refusals.{ifaceCheck, checkNumber}
 use Rattle.neighbor.specs.NeighborRules.{Table, Key, isKey}
 use Rattle.neighbor.specs.declared.NeighborCache.{NeighborCache}
 use Rattle.wire.specs.declared.error.Outcome.the-variants.{Refused, Done}
-use Rattle.pending.specs.QueueCalls.{queueRoom, packets, withPackets, blank, zeros, pushNumber, pushedOut, pushBy, PushedTo, releaseNumber, releasedOut, handleAlone, releaseBy, ReleasedTo, purgedOf, OrphansPurged, purgeBy, PurgedTo, WaitingAt}
+use Rattle.pending.specs.QueueCalls.{queueRoom, packets, withPackets, blank, zeros, pushNumber, pushedOut, pushBy, PushedTo, releaseNumber, releasedOut, handleAlone, releaseBy, ReleasedTo, handlesOf, purgedOf, OrphansPurged, purgeBy, PurgedTo, WaitingAt}
 use Rattle.pending.specs.QueueRules.{Queue, keyOf, packet, hasKey, isFull, pushList, oldest, pushAnswer, gone, releaseList, handed, releaseAnswer, awaitsIn, orphaned, onIface, droppedHandles}
 use Rattle.pending.specs.declared.Handles.{Handles}
 use Rattle.pending.specs.declared.PendingPacket.{PendingPacket}
@@ -25,7 +25,7 @@ use Rattle.pending.specs.declared.Release.the-variants.{Refused as Rejec
 use Rattle.pending.specs.declared.Release.{Release}
 use Rattle.pending.specs.declared.Released.{Released}
 use Rattle.pending.specs.declared.Waiting.the-variants.{Nothing as NoPacket, Is}
-use Rattle.table.proofs.Laws.{Made, made, counted, entry-at, entries-from, at-end, one-more, agree-from, Collecting, collect, nothing, collected, Compacting, compacting, next, one-gone, one-kept, compacted, Moving, moving, moved, Finding, finding, find-next, found-goes, found-any, absent-any, Scanning, scanning, scan-next, scan-found}
+use Rattle.table.proofs.Laws.{Made, made, counted, take-count, entry-at, entries-from, at-end, one-more, agree-from, Collecting, collect, nothing, collected, Compacting, compacting, next, one-gone, one-kept, compacted, Moving, moving, moved, Finding, finding, find-next, found-goes, found-any, absent-any, Scanning, scanning, scan-next, scan-found}
 use Rattle.table.specs.Table.{filled, anyOf, firstOf, kept, without}
 use Rattle.wire.specs.declared.error.Check.the-variants.{Fine, Refused as Fails}
 use Rattle.wire.specs.declared.error.Check.{Check}
@@ -211,70 +211,68 @@ module _ (q : PendingQueue) (iface : ℕ) (addr : Ipv6Addr) where
 
 -- Purges: the loop keeps what stays, and collects the handles of what goes
 
-pub record Purging (goes : PendingPacket → Bool) (s₀ : Queue) (len n : ℕ) (s : Queue) (w i : ℕ) (b : List ℕ) (m : ℕ) : Type 0 where
+pub record Purging (goes : PendingPacket → Bool) (s₀ : Queue) (n : ℕ) (s : Queue) (w i : ℕ) (b : List ℕ) (m : ℕ) : Type 0 where
   pub few : m ≤ i
-  pub keeping : Compacting 8 goes s₀ len n s w i
-  pub out : Collecting (droppedHandles goes (take len s₀)) zeros b m (droppedHandles goes (drop i (take len s₀)))
+  pub keeping : Compacting 8 goes s₀ n n s w i
+  pub out : Collecting (droppedHandles goes (take n s₀)) zeros b m (droppedHandles goes (drop i (take n s₀)))
 
-pub purging : (goes : PendingPacket → Bool) (s : Queue) (len n : ℕ) → length s ≡ 8 → n ≡ min len 8 → Purging goes s len n s 0 0 zeros 0
-purging goes s len n full e =
-    record { few = omega arith; keeping = compacting 8 goes s len n full e; out = record { so-far = refl; rest = refl; long = refl } }
+pub purging : (goes : PendingPacket → Bool) (s : Queue) (n : ℕ) → length s ≡ 8 → n ≤ 8 → Purging goes s n s 0 0 zeros 0
+purging goes s n full most =
+    record { few = omega arith; keeping = compacting 8 goes s n n full (omega arith); out = record { so-far = refl; rest = refl; long = refl } }
 
-module _ {goes : PendingPacket → Bool} {s₀ : Queue} {len n : ℕ} {s : Queue} {w i : ℕ} {b : List ℕ} {m : ℕ}
-    (inv : Purging goes s₀ len n s w i b m) where
+module _ {goes : PendingPacket → Bool} {s₀ : Queue} {n : ℕ} {s : Queue} {w i : ℕ} {b : List ℕ} {m : ℕ} (inv : Purging goes s₀ n s w i b m) where
   module _ (h : i < n) where
-    here : drop i (take len s₀) ≡ getD s i blank ∷ drop (i + 1) (take len s₀)
-    here = next blank goes s₀ len s w i (inv .keeping .keeping) (omega (arith, inv .keeping .count))
+    here : drop i (take n s₀) ≡ getD s i blank ∷ drop (i + 1) (take n s₀)
+    here = next blank goes s₀ n s w i (inv .keeping .keeping) (omega (arith, inv .keeping .count))
 
-    pub one-goes : goes (getD s i blank) ≡ true → Purging goes s₀ len n s w (i + 1) (set b m (getD s i blank .handle)) (m + 1)
+    pub one-goes : goes (getD s i blank) ≡ true → Purging goes s₀ n s w (i + 1) (set b m (getD s i blank .handle)) (m + 1)
     unfolding droppedHandles
     one-goes g =
-        let t : droppedHandles goes (drop i (take len s₀)) ≡ getD s i blank .handle ∷ droppedHandles goes (drop (i + 1) (take len s₀)) = simp (here, g) in
+        let t : droppedHandles goes (drop i (take n s₀)) ≡ getD s i blank .handle ∷ droppedHandles goes (drop (i + 1) (take n s₀)) = simp (here, g) in
         record {
           few = omega (arith, inv .few);
           keeping = one-gone blank (inv .keeping) h g;
           out = collect _ _ _ _ _ (inv .out) (getD s i blank .handle) _ t (omega (arith, inv .few, inv .keeping .most));
         }
 
-    pub one-stays : goes (getD s i blank) ≡ false → Purging goes s₀ len n (set s w (getD s i blank)) (w + 1) (i + 1) b m
+    pub one-stays : goes (getD s i blank) ≡ false → Purging goes s₀ n (set s w (getD s i blank)) (w + 1) (i + 1) b m
     unfolding droppedHandles
     one-stays g =
-        let t : droppedHandles goes (drop i (take len s₀)) ≡ droppedHandles goes (drop (i + 1) (take len s₀)) = simp (here, g) in
+        let t : droppedHandles goes (drop i (take n s₀)) ≡ droppedHandles goes (drop (i + 1) (take n s₀)) = simp (here, g) in
         record {
           few = omega (arith, inv .few);
           keeping = one-kept blank (inv .keeping) h g;
           out = nothing _ _ _ _ _ (inv .out) _ t;
         }
 
-pub purged : (q : PendingQueue) (goes : PendingPacket → Bool) {n : ℕ} {s : Queue} {w i : ℕ} {b : List ℕ} {m : ℕ}
-    → Purging goes (q .slots) (q .len) n s w i b m → n ≤ i
-    → _≡_ {A = Purged} (record { queue = record { slots = s; len = w }; handles = record { slots = b; len = m }; outcome = Done }) (purgedOf q goes)
-unfolding purgedOf droppedHandles
-purged q goes {n} {s} {w} {i} {b} {m} inv h =
-    let k : Made (q .slots) (kept goes (packets q)) s w = compacted blank (inv .keeping) h in
-    let l : length (packets q) ≤ i = omega (arith, inv .keeping .count) in
-    let none : droppedHandles goes (drop i (packets q)) ≡ [] = simp (drop-of-length-le (packets q) l) in
-    let o = collected _ _ _ _ _ (inv .out) none (omega (arith, inv .few, inv .keeping .low, inv .keeping .most)) in
-    ap₂ (λ (x : PendingQueue) (y : Handles). record { queue = x; handles = y; outcome = Done })
-    (ap₂ (λ (x : Queue) (y : ℕ). record { slots = x; len = y }) (k .slots) (k .count))
-    (ap₂ (λ (x : List ℕ) (y : ℕ). record { slots = x; len = y }) (o .0) (o .1))
+module _ (q : PendingQueue) {n : ℕ} (full : length (q .slots) ≡ 8) (e : n ≡ min (q .len) 8) where
+  purged : (goes : PendingPacket → Bool) {s : Queue} {w i : ℕ} {b : List ℕ} {m : ℕ} → Purging goes (q .slots) n s w i b m → n ≤ i
+      → _≡_ {A = Purged} (record { queue = record { slots = s; len = w }; handles = record { slots = b; len = m }; outcome = Done }) (purgedOf q goes)
+  unfolding purgedOf droppedHandles
+  purged goes {s} {w} {i} {b} {m} inv h =
+      let k : Made (q .slots) (kept goes (take n (q .slots))) s w = compacted blank (inv .keeping) h in
+      let l : length (take n (q .slots)) ≤ i = omega (arith, inv .keeping .count) in
+      let none : droppedHandles goes (drop i (take n (q .slots))) ≡ [] = simp (drop-of-length-le (take n (q .slots)) l) in
+      let same : take n (q .slots) ≡ packets q = take-count (q .slots) (q .len) n (counted (q .slots) (q .len) 8 n full e) in
+      let o = collected _ _ _ _ _ (inv .out) none (omega (arith, inv .few, inv .keeping .low, inv .keeping .most)) in
+      ap₂ (λ (x : PendingQueue) (y : Handles). record { queue = x; handles = y; outcome = Done })
+      (ap₂ (λ (x : Queue) (y : ℕ). record { slots = x; len = y }) (k .slots) (k .count))
+      (ap₂ (λ (x : List ℕ) (y : ℕ). record { slots = x; len = y }) (o .0) (o .1))
+      ∙ ap (λ (ps : Queue). record { queue = withPackets q (kept goes ps); handles = handlesOf (droppedHandles goes ps); outcome = Done }) same
 
-pub purged-orphans : (q : PendingQueue) (c : NeighborCache) {n : ℕ} {s : Queue} {w i : ℕ} {b : List ℕ} {m : ℕ}
-    → Purging (orphaned (entries c)) (q .slots) (q .len) n s w i b m → n ≤ i
-    → OrphansPurged q c (record { queue = record { slots = s; len = w }; handles = record { slots = b; len = m }; outcome = Done })
-purged-orphans q c inv h = record { is = purged q (orphaned (entries c)) inv h; number = refl }
+  pub purged-orphans : (c : NeighborCache) {s : Queue} {w i : ℕ} {b : List ℕ} {m : ℕ} → Purging (orphaned (entries c)) (q .slots) n s w i b m → n ≤ i
+      → OrphansPurged q c (record { queue = record { slots = s; len = w }; handles = record { slots = b; len = m }; outcome = Done })
+  purged-orphans c inv h = record { is = purged (orphaned (entries c)) inv h; number = refl }
 
-module _ (q : PendingQueue) (iface : ℕ) where
-  pub purge-refused : (why : Refusal) → ifaceCheck iface ≡ Fails why
-      → PurgedTo q iface (record { queue = q; handles = record { slots = zeros; len = 0 }; outcome = Refused why })
-  purge-refused why e = record { is = ap (λ (x : Check). purgeBy x q (onIface iface)) (sym e); number = ap checkNumber (sym e) }
-
-  pub purged-iface : {n : ℕ} {s : Queue} {w i : ℕ} {b : List ℕ} {m : ℕ} → ifaceCheck iface ≡ Fine
-      → Purging (onIface iface) (q .slots) (q .len) n s w i b m → n ≤ i
-      → PurgedTo q iface (record { queue = record { slots = s; len = w }; handles = record { slots = b; len = m }; outcome = Done })
+  pub purged-iface : (iface : ℕ) {s : Queue} {w i : ℕ} {b : List ℕ} {m : ℕ} → ifaceCheck iface ≡ Fine → Purging (onIface iface) (q .slots) n s w i b m
+      → n ≤ i → PurgedTo q iface (record { queue = record { slots = s; len = w }; handles = record { slots = b; len = m }; outcome = Done })
   unfolding purgedOf
-  purged-iface e inv h =
-      record { is = purged q (onIface iface) inv h ∙ ap (λ (x : Check). purgeBy x q (onIface iface)) (sym e); number = ap checkNumber (sym e) }
+  purged-iface iface fine inv h =
+      record { is = purged (onIface iface) inv h ∙ ap (λ (x : Check). purgeBy x q (onIface iface)) (sym fine); number = ap checkNumber (sym fine) }
+
+pub purge-refused : (q : PendingQueue) (iface : ℕ) (why : Refusal) → ifaceCheck iface ≡ Fails why
+    → PurgedTo q iface (record { queue = q; handles = record { slots = zeros; len = 0 }; outcome = Refused why })
+purge-refused q iface why e = record { is = ap (λ (x : Check). purgeBy x q (onIface iface)) (sym e); number = ap checkNumber (sym e) }
 
 -- what was found in the cache tells whether the packet is an orphan
 module _ (t : Table) (p : PendingPacket) (a : Bool) (e : a ≡ firstOf (isKey (keyOf p)) awaitsIn false t) where

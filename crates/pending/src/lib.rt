@@ -60,6 +60,8 @@ pub struct Released {
     pub answer: Release,
 }
 
+// What a purge leaves and what it dropped. A purge that is carried out puts the queue in as slots and count: whole, in front of the
+// handles, it would be copied once more on its way out.
 pub struct Purged {
     pub queue: PendingQueue,
     pub handles: Handles,
@@ -209,15 +211,15 @@ impl PendingQueue {
     pub fn purge_orphans(self, cache: NeighborCache) -> Purged
         ensures { λ r. ⌜ OrphansPurged self cache r ⌝ }
     {
-        let mut queue = self;
+        let mut slots = self.slots;
         let mut handles = [0u32; PENDING_QUEUE_COUNT];
-        let count = count_of(queue.len, PENDING_QUEUE_COUNT);
+        let count = count_of(self.len, PENDING_QUEUE_COUNT);
         let neighbors = count_of(cache.len, NEIGHBOR_CACHE_COUNT);
-        let mut dropped = 0;
-        let mut kept = 0;
+        let mut orphans = 0;
+        let mut waiting = 0;
         let mut i = 0;
         while i < count {
-            let packet = queue.slots[i];
+            let packet = slots[i];
             let addr = packet.addr;
             let mut awaited = false;
             let mut j = 0;
@@ -232,19 +234,21 @@ impl PendingQueue {
             }
             i += 1;
             if awaited {
-                queue.slots[kept] = packet;
-                kept += 1;
+                slots[waiting] = packet;
+                waiting += 1;
             } else {
-                handles[dropped] = packet.handle;
-                dropped += 1;
+                handles[orphans] = packet.handle;
+                orphans += 1;
             }
         }
-        queue.len = kept;
         Purged {
-            queue: queue,
+            queue: PendingQueue {
+                slots: slots,
+                len: waiting,
+            },
             handles: Handles {
                 slots: handles,
-                len: dropped,
+                len: orphans,
             },
             outcome: Outcome::Done,
         }
@@ -254,13 +258,12 @@ impl PendingQueue {
     pub fn purge_iface(self, iface: u8) -> Purged
         ensures { λ r. ⌜ PurgedTo self iface r ⌝ }
     {
-        let mut queue = self;
         let mut handles = [0u32; PENDING_QUEUE_COUNT];
         let check = check_iface(iface);
         match check {
             Check::Refused(why) => {
                 return Purged {
-                    queue: queue,
+                    queue: self,
                     handles: Handles {
                         slots: handles,
                         len: 0,
@@ -270,24 +273,27 @@ impl PendingQueue {
             }
             Check::Fine => {}
         }
-        let count = count_of(queue.len, PENDING_QUEUE_COUNT);
+        let mut slots = self.slots;
+        let count = count_of(self.len, PENDING_QUEUE_COUNT);
         let mut dropped = 0;
         let mut kept = 0;
         let mut i = 0;
         while i < count {
-            let packet = queue.slots[i];
+            let packet = slots[i];
             i += 1;
             if iface == packet.iface {
                 handles[dropped] = packet.handle;
                 dropped += 1;
             } else {
-                queue.slots[kept] = packet;
+                slots[kept] = packet;
                 kept += 1;
             }
         }
-        queue.len = kept;
         Purged {
-            queue: queue,
+            queue: PendingQueue {
+                slots: slots,
+                len: kept,
+            },
             handles: Handles {
                 slots: handles,
                 len: dropped,

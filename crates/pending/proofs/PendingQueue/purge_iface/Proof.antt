@@ -11,10 +11,10 @@ use Rattle.pending.proofs.PendingQueue.purge_iface.Statement.{statement
 use Rattle.pending.proofs.PendingQueue.purge_iface.Tie as tie
 
 abbrev Inv-loop : tie.InvT-loop
-Inv-loop iface queue₀ handles₀ count dropped₀ kept₀ i₀ queue handles dropped kept i = Purging (onIface iface) (queue₀ .slots) (queue₀ .len) count (queue .slots) kept i handles dropped
+Inv-loop iface handles₀ slots₀ count dropped₀ kept₀ i₀ handles slots dropped kept i = Purging (onIface iface) slots₀ count slots kept i handles dropped
 
 abbrev μ-loop : tie.MeasureT-loop
-μ-loop iface queue₀ handles₀ count dropped₀ kept₀ i₀ queue handles dropped kept i = count - i
+μ-loop iface handles₀ slots₀ count dropped₀ kept₀ i₀ handles slots dropped kept i = count - i
 
 check-iface-requires : tie.Need-check-iface-requires Inv-loop μ-loop
 check-iface-requires c κs = search needs
@@ -32,14 +32,14 @@ count-of-requires : tie.Need-count-of-requires Inv-loop μ-loop
 count-of-requires c κs = search needs
 
 loop-holds : tie.Need-loop-holds Inv-loop μ-loop
-loop-holds c = let full : length (c .before .before .before .before .args .self .slots) ≡ 8 = search (needs, mapped) in
-    purging (onIface (c .before .before .before .before .args .iface)) (c .before .before .before .before .args .self .slots) (c .before .before .before .before .args .self .len) _ full (c .count-of .ensures)
+loop-holds c = let full : length (c .before .before .before .before .before .args .self .slots) ≡ 8 = search (needs, mapped) in
+    purging (onIface (c .before .before .before .before .before .args .iface)) (c .before .before .before .before .before .args .self .slots) _ full (omega (arith, c .count-of .ensures))
 
 mul-packet : tie.Need-mul-packet Inv-loop μ-loop
 mul-packet c = omega arith
 
-element-copy-out-packet : tie.Need-element-copy-out-packet Inv-loop μ-loop
-element-copy-out-packet c = omega arith
+array-copy-out-packet : tie.Need-array-copy-out-packet Inv-loop μ-loop
+array-copy-out-packet c = omega arith
 
 add-i : tie.Need-add-i Inv-loop μ-loop
 add-i c = omega arith
@@ -60,11 +60,11 @@ loop-again : tie.Need-loop-again Inv-loop μ-loop
 unfolding onIface
 loop-again c = one-goes (c .before .before .before .before .loop .inv) (omega arith) (eq-eqb _ _ (c .if1 .taken))
 
-mul-packet-2 : tie.Need-mul-packet-2 Inv-loop μ-loop
-mul-packet-2 c = omega arith
+mul-slots : tie.Need-mul-slots Inv-loop μ-loop
+mul-slots c = omega arith
 
-element-set-from-packet : tie.Need-element-set-from-packet Inv-loop μ-loop
-element-set-from-packet c = omega arith
+array-set-from-slots : tie.Need-array-set-from-slots Inv-loop μ-loop
+array-set-from-slots c = omega arith
 
 add-kept : tie.Need-add-kept Inv-loop μ-loop
 add-kept c = omega arith
@@ -77,7 +77,8 @@ unfolding onIface
 loop-again-2 c = one-stays (c .before .before .before .before .loop .inv) (omega arith) (ne-eqb _ _ (c .if1 .left))
 
 returns-2 : tie.Need-returns-2 Inv-loop μ-loop
-returns-2 c = purged-iface (c .before .before .before .before .before .before .args .self) (c .before .before .before .before .before .before .args .iface) (sym (c .before .before .before .before .before .check-iface .ensures .is) ∙ c .before .before .before .enum-told .given .1) (c .before .loop .inv) (omega arith)
+returns-2 c = let full : length (c .before .before .before .before .before .before .before .args .self .slots) ≡ 8 = search (needs, mapped) in
+    purged-iface (c .before .before .before .before .before .before .before .args .self) full (c .before .before .count-of .ensures) (c .before .before .before .before .before .before .before .args .iface) (sym (c .before .before .before .before .before .before .check-iface .ensures .is) ∙ c .before .before .before .before .enum-told .given .1) (c .before .loop .inv) (omega arith)
 
 pub purge-iface-spec : {M : Type 1} → statement M
 purge-iface-spec =
@@ -92,15 +93,15 @@ purge-iface-spec =
     count-of-requires
     loop-holds
     mul-packet
-    element-copy-out-packet
+    array-copy-out-packet
     add-i
     mul-handles
     array-write-handles
     add-dropped
     loop-less
     loop-again
-    mul-packet-2
-    element-set-from-packet
+    mul-slots
+    array-set-from-slots
     add-kept
     loop-less-2
     loop-again-2

@@ -16,16 +16,16 @@ use Rattle.pending.proofs.PendingQueue.purge_orphans.Statement.{stateme
 use Rattle.pending.proofs.PendingQueue.purge_orphans.Tie as tie
 
 abbrev Inv-loop2 : tie.InvT-loop2
-Inv-loop2 cache queue handles count neighbors dropped kept i packet addr awaited₀ j₀ awaited j = (awaited ≡ false) × Scanning 16 (isKey (keyOf packet)) awaitsIn false (cache .slots) (cache .len) neighbors j
+Inv-loop2 cache slots handles count neighbors orphans waiting i packet addr awaited₀ j₀ awaited j = (awaited ≡ false) × Scanning 16 (isKey (keyOf packet)) awaitsIn false (cache .slots) (cache .len) neighbors j
 
 abbrev μ-loop2 : tie.MeasureT-loop2
-μ-loop2 cache queue handles count neighbors dropped kept i packet addr awaited₀ j₀ awaited j = neighbors - j
+μ-loop2 cache slots handles count neighbors orphans waiting i packet addr awaited₀ j₀ awaited j = neighbors - j
 
 abbrev Inv-loop : tie.InvT-loop
-Inv-loop cache queue₀ handles₀ count neighbors dropped₀ kept₀ i₀ queue handles dropped kept i = Purging (orphaned (entries cache)) (queue₀ .slots) (queue₀ .len) count (queue .slots) kept i handles dropped
+Inv-loop cache slots₀ handles₀ count neighbors orphans₀ waiting₀ i₀ slots handles orphans waiting i = Purging (orphaned (entries cache)) slots₀ count slots waiting i handles orphans
 
 abbrev μ-loop : tie.MeasureT-loop
-μ-loop cache queue₀ handles₀ count neighbors dropped₀ kept₀ i₀ queue handles dropped kept i = count - i
+μ-loop cache slots₀ handles₀ count neighbors orphans₀ waiting₀ i₀ slots handles orphans waiting i = count - i
 
 count-of-requires : tie.Need-count-of-requires Inv-loop2 μ-loop2 Inv-loop μ-loop
 count-of-requires c κs = search needs
@@ -34,18 +34,18 @@ count-of-requires-2 : tie.Need-count-of-requires-2 Inv-loop2 μ-loop2 Inv-loop �
 count-of-requires-2 c κs = search needs
 
 loop-holds : tie.Need-loop-holds Inv-loop2 μ-loop2 Inv-loop μ-loop
-loop-holds c = let full : length (c .before .before .args .self .slots) ≡ 8 = search (needs, mapped) in
-    purging (orphaned (entries (c .before .before .args .t2))) (c .before .before .args .self .slots) (c .before .before .args .self .len) _ full (c .before .count-of .ensures)
+loop-holds c = let full : length (c .before .before .before .args .self .slots) ≡ 8 = search (needs, mapped) in
+    purging (orphaned (entries (c .before .before .before .args .t2))) (c .before .before .before .args .self .slots) _ full (omega (arith, c .before .count-of .ensures))
 
 mul-packet : tie.Need-mul-packet Inv-loop2 μ-loop2 Inv-loop μ-loop
 mul-packet c = omega arith
 
-element-copy-out-packet : tie.Need-element-copy-out-packet Inv-loop2 μ-loop2 Inv-loop μ-loop
-element-copy-out-packet c = omega arith
+array-copy-out-packet : tie.Need-array-copy-out-packet Inv-loop2 μ-loop2 Inv-loop μ-loop
+array-copy-out-packet c = omega arith
 
 loop2-holds : tie.Need-loop2-holds Inv-loop2 μ-loop2 Inv-loop μ-loop
-loop2-holds c = let full : length (c .before .before .before .before .before .before .args .t2 .slots) ≡ 16 = search (needs, mapped) in
-    (refl, scanning 16 (isKey (keyOf (getD (c .before .before .before .loop .queue .slots) (c .before .before .before .loop .i) blank))) awaitsIn false (c .before .before .before .before .before .before .args .t2 .slots) (c .before .before .before .before .before .before .args .t2 .len) _ full (c .before .before .before .before .count-of2 .ensures))
+loop2-holds c = let full : length (c .before .before .before .before .before .before .before .args .t2 .slots) ≡ 16 = search (needs, mapped) in
+    (refl, scanning 16 (isKey (keyOf (getD (c .before .before .before .loop .slots) (c .before .before .before .loop .i) blank))) awaitsIn false (c .before .before .before .before .before .before .before .args .t2 .slots) (c .before .before .before .before .before .before .before .args .t2 .len) _ full (c .before .before .before .before .count-of2 .ensures))
 
 mul-entry : tie.Need-mul-entry Inv-loop2 μ-loop2 Inv-loop μ-loop
 mul-entry c = omega arith
@@ -71,24 +71,24 @@ loop2-again c = (c .before .before .before .before .loop2 .inv .0, scan-next bla
 add-i : tie.Need-add-i Inv-loop2 μ-loop2 Inv-loop μ-loop
 add-i c = omega arith
 
-mul-packet-2 : tie.Need-mul-packet-2 Inv-loop2 μ-loop2 Inv-loop μ-loop
-mul-packet-2 c = omega arith
+mul-slots : tie.Need-mul-slots Inv-loop2 μ-loop2 Inv-loop μ-loop
+mul-slots c = omega arith
 
-element-set-from-packet : tie.Need-element-set-from-packet Inv-loop2 μ-loop2 Inv-loop μ-loop
-element-set-from-packet c = omega arith
+array-set-from-slots : tie.Need-array-set-from-slots Inv-loop2 μ-loop2 Inv-loop μ-loop
+array-set-from-slots c = omega arith
 
-add-kept : tie.Need-add-kept Inv-loop2 μ-loop2 Inv-loop μ-loop
-add-kept c = omega arith
+add-waiting : tie.Need-add-waiting Inv-loop2 μ-loop2 Inv-loop μ-loop
+add-waiting c = omega arith
 
 loop-less : tie.Need-loop-less Inv-loop2 μ-loop2 Inv-loop μ-loop
 loop-less c = omega arith
 
 loop-again : tie.Need-loop-again Inv-loop2 μ-loop2 Inv-loop μ-loop
-loop-again c = let found : (c .before .loop2-test .awaited) ≡ firstOf (isKey (keyOf (getD (c .before .before .before .before .before .before .loop .queue .slots) (c .before .before .before .before .before .before .loop .i) blank))) awaitsIn false (entries (c .before .before .before .before .before .before .before .before .before .args .t2)) =
+loop-again c = let found : (c .before .loop2-test .awaited) ≡ firstOf (isKey (keyOf (getD (c .before .before .before .before .before .before .loop .slots) (c .before .before .before .before .before .before .loop .i) blank))) awaitsIn false (entries (c .before .before .before .before .before .before .before .before .before .before .args .t2)) =
     ⊎-elim (λ w. w .1 ∙ (c .before .before .loop2 .inv .0 ∙ scan-none blankEntry (c .before .before .loop2 .inv .1) (w .0 .left)))
     (λ w. w .5 ∙ (w .4 .ensures ∙ scan-found blankEntry (c .before .before .loop2 .inv .1) (w .0 .taken) (sym (w .2 .ensures) ∙ w .3 .taken)))
     (c .before .loop2-test .came) in
-    one-stays (c .before .before .before .before .before .before .loop .inv) (omega arith) (stays-awaited (entries (c .before .before .before .before .before .before .before .before .before .args .t2)) (getD (c .before .before .before .before .before .before .loop .queue .slots) (c .before .before .before .before .before .before .loop .i) blank) (c .before .loop2-test .awaited) found (c .if2 .taken))
+    one-stays (c .before .before .before .before .before .before .loop .inv) (omega arith) (stays-awaited (entries (c .before .before .before .before .before .before .before .before .before .before .args .t2)) (getD (c .before .before .before .before .before .before .loop .slots) (c .before .before .before .before .before .before .loop .i) blank) (c .before .loop2-test .awaited) found (c .if2 .taken))
 
 mul-handles : tie.Need-mul-handles Inv-loop2 μ-loop2 Inv-loop μ-loop
 mul-handles c = omega arith
@@ -96,21 +96,22 @@ mul-handles c = omega arith
 array-write-handles : tie.Need-array-write-handles Inv-loop2 μ-loop2 Inv-loop μ-loop
 array-write-handles c = omega arith
 
-add-dropped : tie.Need-add-dropped Inv-loop2 μ-loop2 Inv-loop μ-loop
-add-dropped c = omega arith
+add-orphans : tie.Need-add-orphans Inv-loop2 μ-loop2 Inv-loop μ-loop
+add-orphans c = omega arith
 
 loop-less-2 : tie.Need-loop-less-2 Inv-loop2 μ-loop2 Inv-loop μ-loop
 loop-less-2 c = omega arith
 
 loop-again-2 : tie.Need-loop-again-2 Inv-loop2 μ-loop2 Inv-loop μ-loop
-loop-again-2 c = let found : (c .before .loop2-test .awaited) ≡ firstOf (isKey (keyOf (getD (c .before .before .before .before .before .before .loop .queue .slots) (c .before .before .before .before .before .before .loop .i) blank))) awaitsIn false (entries (c .before .before .before .before .before .before .before .before .before .args .t2)) =
+loop-again-2 c = let found : (c .before .loop2-test .awaited) ≡ firstOf (isKey (keyOf (getD (c .before .before .before .before .before .before .loop .slots) (c .before .before .before .before .before .before .loop .i) blank))) awaitsIn false (entries (c .before .before .before .before .before .before .before .before .before .before .args .t2)) =
     ⊎-elim (λ w. w .1 ∙ (c .before .before .loop2 .inv .0 ∙ scan-none blankEntry (c .before .before .loop2 .inv .1) (w .0 .left)))
     (λ w. w .5 ∙ (w .4 .ensures ∙ scan-found blankEntry (c .before .before .loop2 .inv .1) (w .0 .taken) (sym (w .2 .ensures) ∙ w .3 .taken)))
     (c .before .loop2-test .came) in
-    one-goes (c .before .before .before .before .before .before .loop .inv) (omega arith) (goes-orphaned (entries (c .before .before .before .before .before .before .before .before .before .args .t2)) (getD (c .before .before .before .before .before .before .loop .queue .slots) (c .before .before .before .before .before .before .loop .i) blank) (c .before .loop2-test .awaited) found (c .if2 .left))
+    one-goes (c .before .before .before .before .before .before .loop .inv) (omega arith) (goes-orphaned (entries (c .before .before .before .before .before .before .before .before .before .before .args .t2)) (getD (c .before .before .before .before .before .before .loop .slots) (c .before .before .before .before .before .before .loop .i) blank) (c .before .loop2-test .awaited) found (c .if2 .left))
 
 returns : tie.Need-returns Inv-loop2 μ-loop2 Inv-loop μ-loop
-returns c = purged-orphans (c .before .before .before .before .args .self) (c .before .before .before .before .args .t2) (c .before .loop .inv) (omega arith)
+returns c = let full : length (c .before .before .before .before .before .args .self .slots) ≡ 8 = search (needs, mapped) in
+    purged-orphans (c .before .before .before .before .before .args .self) full (c .before .before .before .count-of .ensures) (c .before .before .before .before .before .args .t2) (c .before .loop .inv) (omega arith)
 
 pub purge-orphans-spec : {M : Type 1} → statement M
 purge-orphans-spec =
@@ -124,7 +125,7 @@ purge-orphans-spec =
     count-of-requires-2
     loop-holds
     mul-packet
-    element-copy-out-packet
+    array-copy-out-packet
     loop2-holds
     mul-entry
     element-copy-out-entry
@@ -134,14 +135,14 @@ purge-orphans-spec =
     loop2-less
     loop2-again
     add-i
-    mul-packet-2
-    element-set-from-packet
-    add-kept
+    mul-slots
+    array-set-from-slots
+    add-waiting
     loop-less
     loop-again
     mul-handles
     array-write-handles
-    add-dropped
+    add-orphans
     loop-less-2
     loop-again-2
     returns)
