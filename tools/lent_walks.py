@@ -1,11 +1,11 @@
 # The walks of the lent calls. When their code changes, write crates/lent/proofs/*/Proof.antt again, at the repository's root:
 #     python3 tools/walk.py crates/lent tools/lent_walks.py
 fields = {
-    'Swept': [('cache', 'NeighborCache'), ('clock', 'Clock'), ('events', 'Events'), ('outcome', 'Outcome')],
-    'Reported': [('cache', 'NeighborCache'), ('events', 'Events'), ('outcome', 'Outcome')],
+    'Swept': [('cache', 'NeighborCache'), ('clock', 'Clock'), ('events', 'Events'), ('looked', 'usize'), ('outcome', 'Outcome')],
+    'Reported': [('cache', 'NeighborCache'), ('events', 'Events'), ('looked', 'usize'), ('outcome', 'Outcome')],
     'PolledAt': [('clock', 'Clock'), ('polled', 'Polled')],
 }
-offsets = {'PolledAt': [0, 24]}
+offsets = {'PolledAt': [0, 24], 'Swept': [0, 776, 800, 1192, 1200]}
 enums = ['Outcome']
 homes = {
     'NeighborCache': 'neighbor', 'Outcome': 'wire::error', 'Swept': 'sweep', 'Events': 'sweep', 'Clock': 'time', 'Slaac': 'slaac', 'IfaceAddrs': 'iface::addr',

@@ -431,13 +431,24 @@ fn purged(world: World, args: Args, out: &mut [u8], at: usize) -> After {
     }
 }
 
-fn swept(out: &mut [u8], at: usize, outcome: Outcome, clock: Clock, events: Events) -> usize {
+fn swept(
+    out: &mut [u8],
+    at: usize,
+    outcome: Outcome,
+    clock: Clock,
+    looked: usize,
+    events: Events,
+) -> usize {
     match outcome {
-        Outcome::Refused(why) => refused(out, at, why),
+        Outcome::Refused(why) => {
+            let after_refusal = refused(out, at, why);
+            answers::looked(out, after_refusal, looked)
+        }
         Outcome::Done => {
             let end = clock.deadline;
             let after_deadline = deadline_after(out, at, b"deadline ", end);
-            answers::events(out, after_deadline, events)
+            let after_looked = answers::looked(out, after_deadline, looked);
+            answers::events(out, after_looked, events)
         }
     }
 }
@@ -449,13 +460,14 @@ fn sweep(world: World, args: Args, out: &mut [u8], at: usize) -> After {
     let reported = left.reported;
     let outcome = reported.outcome;
     let events = reported.events;
+    let looked = reported.looked;
     let cache_after = reported.cache;
     let mut after = world;
     after.cache = cache_after;
     after.clock = clock;
     After {
         world: after,
-        at: swept(out, at, outcome, clock, events),
+        at: swept(out, at, outcome, clock, looked, events),
     }
 }
 

@@ -129,6 +129,11 @@ fn event(out: &mut [u8], at: usize, probe: ProbeEvent) -> usize {
     }
 }
 
+// How many entries a sweep looked at.
+pub fn looked(out: &mut [u8], at: usize, count: usize) -> usize {
+    number_after(out, at, b" looked ", count as u64)
+}
+
 // The events of a sweep, in order.
 pub fn events(out: &mut [u8], at: usize, list: Events) -> usize {
     let count = count_of(list.len, NEIGHBOR_CACHE_COUNT);

@@ -10,6 +10,7 @@ use Rattle.claims.proofs.Early.{not-early}
 use Rattle.claims.proofs.Endless.{endless}
 use Rattle.claims.proofs.Examples.{examples}
 use Rattle.claims.proofs.Lasting.{lasting}
+use Rattle.claims.proofs.Looks.{looks}
 use Rattle.claims.proofs.MainLoop.{main-loop}
 use Rattle.claims.proofs.Order.{order}
 use Rattle.claims.proofs.Packets.{packets}
@@ -36,6 +37,7 @@ claims = record {
   on-caches = on-caches;
   packets = packets;
   places = places;
+  looks = looks;
   keys-once = keys-once;
   accounted = accounted;
   addresses-once = addresses-once;

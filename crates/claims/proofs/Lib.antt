@@ -9,6 +9,7 @@ pub mod Demand3
 pub mod Traces
 pub mod Caches
 pub mod Places
+pub mod Looks
 pub mod Covers
 pub mod Keeps
 pub mod Clocks

@@ -5,7 +5,7 @@ use lib.Dec.{eqb}
 use lib.ListN.{length, getD, set, drop, length-set, length-map}
 use lib.Seq.{drop-cons, drop-length}
 use mathlib.Core.Bool.{Bool, true, false, true≢false}
-use mathlib.Core.List.{[], _∷_}
+use mathlib.Core.List.{[], _∷_, _++_}
 use mathlib.Core.Logic.{_⊎_, inl, inr}
 use mathlib.Core.Path.{_≡_, refl, sym, ap, _∙_}
 use native.Mathlib.Omega.{arith}
@@ -21,7 +21,7 @@ use Rattle.neighbor.specs.NeighborRules.{Table, onIface}
 use Rattle.neighbor.specs.declared.Entry.{Entry}
 use Rattle.neighbor.specs.declared.State.the-variants.{Started, Incomplete, Reachable, Stale}
 use Rattle.neighbor.specs.declared.State.{State}
-use Rattle.sweep.specs.SweepRules.{dueState, due, spentState, spent, probed, nothing, happens, probeAt, probe, eventsFrom, expire, expireAll, sweepTable}
+use Rattle.sweep.specs.SweepRules.{dueState, due, spentState, spent, probed, nothing, happens, probeAt, probe, eventsFrom, expire, expireAll, sweepTable, looksAt, looksFrom, sweepLooks}
 use Rattle.sweep.specs.declared.ProbeEvent.{ProbeEvent}
 use Rattle.sweep.specs.declared.ProbeEvent.the-variants.{Retransmit, Failed}
 use Rattle.table.proofs.First.{first-from-law}
@@ -91,7 +91,7 @@ none i now t place h = go (first-from-law .is blank (due i now) place t)
 
 -- Until none
 
-expired-length : (now : Instant) (t : Table) → length (expireAll now t) ≡ length t
+pub expired-length : (now : Instant) (t : Table) → length (expireAll now t) ≡ length t
 unfolding expireAll
 expired-length now t = length-map t (expire now)
 
@@ -100,18 +100,30 @@ unfolding eventsFrom
 ended zero i now t place h = refl
 ended (suc n) i now t place h = rw (h, eventsFrom)
 
+looks-ended : (n i : ℕ) (now : Instant) (t : Table) (place : ℕ) → probe i now t place ≡ nothing → looksFrom n i now t place ≡ looksAt i now t place
+unfolding looksFrom
+looks-ended zero i now t place h = refl
+looks-ended (suc n) i now t place h = rw (h, looksFrom)
+
+looks-one : (n i : ℕ) (now : Instant) (t : Table) (place : ℕ) (v : ProbeEvent) (t' : Table) (place' : ℕ) → probe i now t place ≡ happens v t' place'
+    → looksFrom (suc n) i now t place ≡ looksAt i now t place ++ looksFrom n i now t' place'
+unfolding looksFrom
+looks-one n i now t place v t' place' h = rw (h, looksFrom)
+
 abbrev Goes : ℕ → ℕ → Instant → Table → ℕ → Type 0
-Goes n i now t place = UntilNone i now t place (eventsFrom n i now t place .events) (eventsFrom n i now t place .table)
+Goes n i now t place =
+    UntilNone i now t place (eventsFrom n i now t place .events) (eventsFrom n i now t place .table) (looksFrom n i now t place)
+    (suc (length (eventsFrom n i now t place .events)))
 
 module _ (i : ℕ) (now : Instant) (t : Table) (place : ℕ) where
   goes-none : (n j : ℕ) → NoneFrom blank (due i now) place t j → Goes n i now t place
   goes-none n j x =
       let p = none i now t place (record { end = refl; none = x .none }) in
-      rw (ended n i now t place p) (over p)
+      rw (ended n i now t place p, looks-ended n i now t place p) (over p)
 
   module _ (m : ℕ) (then : (t' : Table) (place' : ℕ) → length t' ≤ m + place' → Goes m i now t' place') where
     goes-one : (v : ProbeEvent) (t' : Table) (place' : ℕ) → probe i now t place ≡ happens v t' place' → length t' ≤ m + place' → Goes (suc m) i now t place
-    goes-one v t' place' p k = rw (events-one m i now t place v t' place' p) (more p (then t' place' k))
+    goes-one v t' place' p k = rw (events-one m i now t place v t' place' p, looks-one m i now t place v t' place' p) (more p (then t' place' k))
 
     goes-first : (j : ℕ) → length t ≤ suc m + place → FirstAt blank (due i now) place t j → (x : Bool) → spent (getD t j blank) ≡ x → Goes (suc m) i now t place
     goes-first j k f true s =
@@ -137,8 +149,9 @@ until zero i now t place h = goes-out i now t place (firstFrom (due i now) place
 until (suc m) i now t place h =
     goes-on i now t place m (λ t' place' k. until m i now t' place' k) (firstFrom (due i now) place t) h (first-from-law .is blank (due i now) place t)
 
-until-none : (i : ℕ) (now : Instant) (t : Table) → UntilNone i now (expireAll now t) 0 (sweepTable i now t .events) (sweepTable i now t .table)
-unfolding sweepTable
+until-none : (i : ℕ) (now : Instant) (t : Table)
+    → UntilNone i now (expireAll now t) 0 (sweepTable i now t .events) (sweepTable i now t .table) (sweepLooks i now t) (suc (length (sweepTable i now t .events)))
+unfolding sweepTable sweepLooks
 until-none i now t = until (length t) i now (expireAll now t) 0 (let e = expired-length now t in omega arith)
 
 pub places : Places

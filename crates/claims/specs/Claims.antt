@@ -1,6 +1,7 @@
 -- What this project promises beyond the single calls: every claim by name. `proofs/Claims.antt` proves them all; `docs/READING.md` says how to read
 -- them, and what each leaves open. Assumes nothing.
 use Rattle.claims.specs.Places.{Places}
+use Rattle.claims.specs.Looks.{Looks}
 use Rattle.claims.specs.Packets.{Packets}
 use Rattle.claims.specs.Demand3.{Demand3}
 use Rattle.claims.specs.Traces.{Traces}
@@ -42,6 +43,8 @@ pub record Claims : Type 1 where
   pub keys-once : KeysOnce
   -- The scans of the cache and the queue find the places that document 01 names.
   pub places : Places
+  -- A sweep looks at each neighbour once, and says how many it looked at: as many as there are.
+  pub looks : Looks
   -- Packets
   --
   -- Each packet that is pushed waits or leaves exactly once, for a reason, and a resolution under way keeps its packets.

@@ -6,6 +6,7 @@ pub mod Demand3
 pub mod Traces
 pub mod Caches
 pub mod Places
+pub mod Looks
 pub mod Clocks
 pub mod Wake
 pub mod WakePoll

@@ -3,7 +3,7 @@
 use Prim.Native.Nat.{ℕ, suc, _≤_}
 use mathlib.Core.Path.{_≡_}
 use mathlib.Core.Bool.{true, false}
-use mathlib.Core.List.{List, [], _∷_}
+use mathlib.Core.List.{List, [], _∷_, _++_}
 use lib.ListN.{length, getD, set}
 use Rattle.table.specs.First.{FirstAt, NoneFrom, FirstFromLaw}
 use Rattle.table.specs.Table.{swapRemove}
@@ -17,7 +17,7 @@ use Rattle.neighbor.specs.Scans.{FirstOfLaw, LookupLaw, GetLaw, RemoveLaw}
 use Rattle.pending.specs.QueueScans.{ReleaseLaw, OrphanLaw}
 use Rattle.sweep.specs.declared.ProbeEvent.{ProbeEvent}
 use Rattle.sweep.specs.declared.ProbeEvent.the-variants.{Retransmit, Failed}
-use Rattle.sweep.specs.SweepRules.{due, spent, probed, nothing, happens, probe, expireAll, sweepTable}
+use Rattle.sweep.specs.SweepRules.{due, spent, probed, nothing, happens, probe, expireAll, sweepTable, looksAt, sweepLooks}
 
 -- "Incomplete, of the interface and due"
 pub record DueNow (i : ℕ) (now : Instant) (e : Entry) : Type 0 where
@@ -34,11 +34,12 @@ pub record NoneLeft (e : Entry) : Type 0 where
   pub incomplete : e .state ≡ Incomplete probes time
   pub three : 3 ≤ probes
 
--- Probe events from a place, one after the other, until there is none: they are vs, and leave the table u
-pub data UntilNone (i : ℕ) (now : Instant) : Table → ℕ → List ProbeEvent → Table → Type 0 where
-  over : {t : Table} {place : ℕ} → probe i now t place ≡ nothing → UntilNone i now t place [] t
-  more : {t t' u : Table} {place place' : ℕ} {v : ProbeEvent} {vs : List ProbeEvent} → probe i now t place ≡ happens v t' place'
-      → UntilNone i now t' place' vs u → UntilNone i now t place (v ∷ vs) u
+-- Probe events from a place, one call after the other, until there is none: they are vs, and leave the table u; the calls look at the entries es, and
+-- are so many
+pub data UntilNone (i : ℕ) (now : Instant) : Table → ℕ → List ProbeEvent → Table → Table → ℕ → Type 0 where
+  over : {t : Table} {place : ℕ} → probe i now t place ≡ nothing → UntilNone i now t place [] t (looksAt i now t place) 1
+  more : {t t' u es : Table} {place place' calls : ℕ} {v : ProbeEvent} {vs : List ProbeEvent} → probe i now t place ≡ happens v t' place'
+      → UntilNone i now t' place' vs u es calls → UntilNone i now t place (v ∷ vs) u (looksAt i now t place ++ es) (suc calls)
 
 pub record Places : Type 1 where
   -- "A full table evicts the first kind present: Stale, Reachable by earliest expiry, Incomplete by earliest due, Started; ties take the lowest index."
@@ -71,4 +72,4 @@ pub record Places : Type 1 where
   pub none : (i : ℕ) (now : Instant) (t : Table) (place : ℕ) → NoneFrom blank (due i now) place t (length t) → probe i now t place ≡ nothing
   -- "A sweep of an interface is one expiry pass, then its probe events from place 0 until none"
   pub until-none : (i : ℕ) (now : Instant) (t : Table)
-      → UntilNone i now (expireAll now t) 0 (sweepTable i now t .events) (sweepTable i now t .table)
+      → UntilNone i now (expireAll now t) 0 (sweepTable i now t .events) (sweepTable i now t .table) (sweepLooks i now t) (suc (length (sweepTable i now t .events)))

@@ -22,7 +22,7 @@ use Rattle.lent.specs.declared.Reported.{Reported}
 
 -- all but the clock
 abbrev pub reportOf : Swept → Reported
-reportOf s = record { cache = s .cache; events = s .events; outcome = s .outcome }
+reportOf s = record { cache = s .cache; events = s .events; looked = s .looked; outcome = s .outcome }
 
 pub record ReportedTo (c : NeighborCache) (k : Clock) (i : ℕ) (r : Reported) (k' : Clock) : Type 0 where
   pub is : r ≡ reportOf (sweepBy (sweepCheck k i) c k i)

@@ -17,6 +17,7 @@ use wire::ethernet::HardwareAddress;
 pub struct Reported {
     pub cache: NeighborCache,
     pub events: Events,
+    pub looked: usize,
     pub outcome: Outcome,
 }
 
@@ -29,6 +30,7 @@ pub fn sweep(cache: NeighborCache, clock: &mut Clock, iface: u8) -> Reported
     Reported {
         cache: swept.cache,
         events: swept.events,
+        looked: swept.looked,
         outcome: swept.outcome,
     }
 }

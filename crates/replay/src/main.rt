@@ -12,7 +12,7 @@ const SHORT: u64 = 1;
 
 const LONG: u64 = 589;
 
-const LONG_CALLS: u64 = 325;
+const LONG_CALLS: u64 = 340;
 
 // Which program's cases.
 pub enum Kind {

@@ -1,4 +1,5 @@
 pub mod ExpiryLaws
+pub mod LookLaws
 pub mod ProbeLaws
 pub mod SweepLaws
 pub mod TimerLaws

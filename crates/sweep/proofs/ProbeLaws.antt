@@ -10,9 +10,11 @@ use native.Mathlib.Omega.{arith}
 use Rattle.neighbor.specs.CacheCalls.{withEntries, blank}
 use Rattle.neighbor.specs.declared.Entry.{Entry}
 use Rattle.neighbor.specs.declared.NeighborCache.{NeighborCache}
+use Rattle.sweep.proofs.Entries.{seen, seen-probe}
+use Rattle.sweep.proofs.LookLaws.{looked-at, looked-at-none, looked-past}
 use Rattle.sweep.specs.SweepCalls.{ProbeIn, nothing, happens, probeInAt, probeIn, EventsIn, andThenIn, eventsIn, slotOf, eventsTable, probeAll, blankEvent}
 use Rattle.sweep.specs.SweepParts.{timerOf}
-use Rattle.sweep.specs.SweepRules.{due, spent, probed}
+use Rattle.sweep.specs.SweepRules.{due, spent, probed, nothing as no-probe, happens as there-is, probe, looksFrom}
 use Rattle.sweep.specs.declared.EventSlot.{EventSlot}
 use Rattle.sweep.specs.declared.Events.{Events}
 use Rattle.sweep.specs.declared.ProbeEvent.the-variants.{Retransmit, Failed}
@@ -140,21 +142,23 @@ module _ (i : ℕ) (now : Instant) (e : Entry) where
   is-rearmed y p = set-again (due i now e) (spent e) (probed now e) y p
 
 -- The loop: the events from place `p` on, over the first `k` of the slots `s`, are all that is left of the events over the
--- first `k₀` of `s₀`; `m` events stand in `b`, which was `b₀`
+-- first `k₀` of `s₀`; `m` events stand in `b`, which was `b₀`; `l` entries were looked at, and what is left to look at makes up the rest
 
-pub record Probing (i : ℕ) (now : Instant) (s₀ : List Entry) (k₀ : ℕ) (b₀ b : List EventSlot) (s : List Entry) (k m p : ℕ) : Type 0 where
+pub record Probing (i : ℕ) (now : Instant) (s₀ : List Entry) (k₀ : ℕ) (b₀ b : List EventSlot) (s : List Entry) (k m l p : ℕ) : Type 0 where
   pub low : p ≤ k
   pub most : k ≤ 16
   pub room : m + k ≤ 16 + p
+  pub steps : l + k ≤ 16 + p
   pub full : length s ≡ 16
   pub blanks : length b₀ ≡ 16
   pub fuel : ℕ
   pub enough : k ≤ p + fuel
   pub cache : eventsIn fuel i now (cacheOf s k) p .cache ≡ probeAll i now (cacheOf s₀ k₀) .cache
   pub events : Collecting (map slotOf (probeAll i now (cacheOf s₀ k₀) .events)) b₀ b m (map slotOf (eventsIn fuel i now (cacheOf s k) p .events))
+  pub looks : l + length (looksFrom fuel i now (take k s) p) ≡ length (looksFrom (length (take k₀ s₀)) i now (take k₀ s₀) 0)
 
 pub probing : (i : ℕ) (now : Instant) (s : List Entry) (k : ℕ) (b : List EventSlot) → length s ≡ 16 → k ≤ 16 → length b ≡ 16
-    → Probing i now s k b b s k 0 0
+    → Probing i now s k b b s k 0 0 0
 unfolding probeAll
 probing i now s k b full most blanks =
     let count : k ≡ length (take k s) = sym (length-take-le k s (omega arith)) in
@@ -162,16 +166,18 @@ probing i now s k b full most blanks =
       low = omega arith;
       most = most;
       room = omega arith;
+      steps = omega arith;
       full = full;
       blanks = blanks;
       fuel = length (take k s);
       enough = omega arith;
       cache = refl;
       events = record { so-far = refl; rest = refl; long = refl };
+      looks = omega arith;
     }
 
-module _ (i : ℕ) (now : Instant) (s₀ : List Entry) (k₀ : ℕ) (b₀ b : List EventSlot) (s : List Entry) (k m p : ℕ)
-    (inv : Probing i now s₀ k₀ b₀ b s k m p) where
+module _ (i : ℕ) (now : Instant) (s₀ : List Entry) (k₀ : ℕ) (b₀ b : List EventSlot) (s : List Entry) (k m l p : ℕ)
+    (inv : Probing i now s₀ k₀ b₀ b s k m l p) where
   number : k ≡ length (take k s)
   number = sym (length-take-le k s (omega (arith, inv .most, inv .full)))
 
@@ -179,37 +185,61 @@ module _ (i : ℕ) (now : Instant) (s₀ : List Entry) (k₀ : ℕ) (b₀ b : Li
   goal = probeAll i now (cacheOf s₀ k₀)
 
   module _ (h : p < k) where
+    inside-count : p < length (take k s)
+    inside-count = omega (arith, number)
+
+    abbrev f : ℕ
+    f = inv .fuel - 1
+
+    one-more : inv .fuel ≡ suc f
+    one-more = omega (arith, inv .enough)
+
+    due-at : (x : Bool) → due i now (getD s p blank) ≡ x → due i now (getD (take k s) p blank) ≡ x
+    due-at x g = ap (due i now) (entry-at blank s k p inside-count) ∙ g
+
     -- the entry is stepped over
-    pub stepped-over : timerOf i now (getD s p blank) ≡ NotDue → Probing i now s₀ k₀ b₀ b s k m (p + 1)
+    pub stepped-over : timerOf i now (getD s p blank) ≡ NotDue → Probing i now s₀ k₀ b₀ b s k m (l + 1) (p + 1)
     stepped-over t =
         let e : eventsIn (inv .fuel) i now (cacheOf s k) p ≡ eventsIn (inv .fuel) i now (cacheOf s k) (p + 1) =
         same-place i now (inv .fuel) (cacheOf s k) p (p + 1)
         (passed-over i now s k p number h (not-due i now (getD s p blank) t)) in
+        let d : probe i now (take k s) p ≡ probe i now (take k s) (p + 1) =
+        sym (seen-probe i now (cacheOf s k) p)
+        ∙ (ap seen (passed-over i now s k p number h (not-due i now (getD s p blank) t)) ∙ seen-probe i now (cacheOf s k) (p + 1)) in
+        let o : length (looksFrom (inv .fuel) i now (take k s) p) ≡ suc (length (looksFrom (inv .fuel) i now (take k s) (p + 1))) =
+        ap (λ (x : ℕ). length (looksFrom x i now (take k s) p)) one-more
+        ∙ (looked-past i now (take k s) p inside-count (due-at false (not-due i now (getD s p blank) t)) f d
+        ∙ ap (λ (x : ℕ). suc (length (looksFrom x i now (take k s) (p + 1)))) (sym one-more)) in
         record {
           low = omega arith;
           most = inv .most;
           room = omega (arith, inv .room);
+          steps = omega (arith, inv .steps);
           full = inv .full;
           blanks = inv .blanks;
           fuel = inv .fuel;
           enough = omega (arith, inv .enough);
           cache = sym (ap (λ (x : EventsIn). x .cache) e) ∙ inv .cache;
           events = table.nothing _ _ _ _ _ (inv .events) _ (ap (λ (x : EventsIn). map slotOf (x .events)) e);
+          looks = omega (arith, o, inv .looks);
         }
 
     -- an event happens: `s′`, `k′` and `p′` are the slots, the count and the place after it
     module _ (v : ProbeEvent) (s′ : List Entry) (k′ p′ : ℕ) (w : probeIn i now (cacheOf s k) p ≡ happens v (cacheOf s′ k′) p′)
-        (full : length s′ ≡ 16) (low : p′ ≤ k′) (less : k′ + p + 1 ≡ k + p′) (most : k′ ≤ k) where
-      happened : Probing i now s₀ k₀ b₀ (set b m (slotOf v)) s′ k′ (m + 1) p′
+        (full : length s′ ≡ 16) (low : p′ ≤ k′) (less : k′ + p + 1 ≡ k + p′) (most : k′ ≤ k) (g : due i now (getD s p blank) ≡ true) where
+      happened : Probing i now s₀ k₀ b₀ (set b m (slotOf v)) s′ k′ (m + 1) (l + 1) p′
       happened =
-          let f : ℕ = inv .fuel - 1 in
-          let n : inv .fuel ≡ suc f = omega (arith, inv .enough) in
           let e : eventsIn (inv .fuel) i now (cacheOf s k) p ≡ andThenIn v (eventsIn f i now (cacheOf s′ k′) p′) =
-          ap (λ (x : ℕ). eventsIn x i now (cacheOf s k) p) n ∙ event-first i now f (cacheOf s k) (cacheOf s′ k′) p p′ v w in
+          ap (λ (x : ℕ). eventsIn x i now (cacheOf s k) p) one-more ∙ event-first i now f (cacheOf s k) (cacheOf s′ k′) p p′ v w in
+          let d : probe i now (take k s) p ≡ there-is v (take k′ s′) p′ = sym (seen-probe i now (cacheOf s k) p) ∙ ap seen w in
+          let o : length (looksFrom (inv .fuel) i now (take k s) p) ≡ suc (length (looksFrom f i now (take k′ s′) p′)) =
+          ap (λ (x : ℕ). length (looksFrom x i now (take k s) p)) one-more
+          ∙ looked-at i now (take k s) p inside-count (due-at true g) f v (take k′ s′) p′ d in
           record {
             low = low;
             most = omega (arith, inv .most);
             room = omega (arith, inv .room);
+            steps = omega (arith, inv .steps);
             full = full;
             blanks = inv .blanks;
             fuel = f;
@@ -218,22 +248,23 @@ module _ (i : ℕ) (now : Instant) (s₀ : List Entry) (k₀ : ℕ) (b₀ b : Li
             events =
                 collect _ _ _ _ _ (inv .events) (slotOf v) (map slotOf (eventsIn f i now (cacheOf s′ k′) p′ .events))
                 (ap (λ (x : EventsIn). map slotOf (x .events)) e) (omega (arith, inv .room, inv .blanks));
+            looks = omega (arith, o, inv .looks);
           }
 
     pub failed : timerOf i now (getD s p blank) ≡ Spent
-        → Probing i now s₀ k₀ b₀ (set b m (slotOf (Failed (getD s p blank .addr)))) (set s p (getD s (k - 1) blank)) (k - 1) (m + 1) p
+        → Probing i now s₀ k₀ b₀ (set b m (slotOf (Failed (getD s p blank .addr)))) (set s p (getD s (k - 1) blank)) (k - 1) (m + 1) (l + 1) p
     failed t =
         let q = is-spent i now (getD s p blank) t in
         happened (Failed (getD s p blank .addr)) (set s p (getD s (k - 1) blank)) (k - 1) p
-        (fails i now s k p number h (q .0) (q .1)) (length-set s p (getD s (k - 1) blank) ∙ inv .full) (omega arith) (omega arith) (omega arith)
+        (fails i now s k p number h (q .0) (q .1)) (length-set s p (getD s (k - 1) blank) ∙ inv .full) (omega arith) (omega arith) (omega arith) (q .0)
 
     pub retransmitted : (y : Entry) → timerOf i now (getD s p blank) ≡ Rearmed y
-        → Probing i now s₀ k₀ b₀ (set b m (slotOf (Retransmit (getD s p blank .addr)))) (set s p y) k (m + 1) (p + 1)
+        → Probing i now s₀ k₀ b₀ (set b m (slotOf (Retransmit (getD s p blank .addr)))) (set s p y) k (m + 1) (l + 1) (p + 1)
     retransmitted y t =
         let q = is-rearmed i now (getD s p blank) y t in
         let w : probeIn i now (cacheOf s k) p ≡ happens (Retransmit (getD s p blank .addr)) (cacheOf (set s p y) k) (p + 1) =
         rw (q .1 .1, add-one p) (retransmits i now s k p number h (q .0) (q .1 .0)) in
-        happened (Retransmit (getD s p blank .addr)) (set s p y) k (p + 1) w (length-set s p y ∙ inv .full) (omega arith) (omega arith) (omega arith)
+        happened (Retransmit (getD s p blank .addr)) (set s p y) k (p + 1) w (length-set s p y ∙ inv .full) (omega arith) (omega arith) (omega arith) (q .0)
 
   -- no entry is left
   module _ (h : k ≤ p) where
@@ -249,3 +280,10 @@ module _ (i : ℕ) (now : Instant) (s₀ : List Entry) (k₀ : ℕ) (b₀ b : Li
         let d = collected _ _ _ _ _ (inv .events) (ap (λ (x : EventsIn). map slotOf (x .events)) ended) (omega (arith, inv .room, inv .low, inv .blanks)) in
         ap₂ (λ (x : List EventSlot) (y : ℕ). record { slots = x; len = y })
         (d .0 ∙ ap (λ (l : List EventSlot). filled l (map slotOf (goal .events))) z) (d .1 ∙ length-map (goal .events) slotOf)
+
+    pub looked-after : l ≡ length (looksFrom (length (take k₀ s₀)) i now (take k₀ s₀) 0)
+    looked-after =
+        let none : probe i now (take k s) p ≡ no-probe = sym (seen-probe i now (cacheOf s k) p) ∙ ap seen (none-left i now s k p number h) in
+        let z : length (looksFrom (inv .fuel) i now (take k s) p) ≡ 0 =
+        ap length (looked-at-none i now (take k s) p (omega (arith, number)) none (inv .fuel)) in
+        omega (arith, z, inv .looks)

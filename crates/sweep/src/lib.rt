@@ -35,6 +35,8 @@ pub struct Swept {
     pub cache: NeighborCache,
     pub clock: Clock,
     pub events: Events,
+    // How many entries the probe part looked at.
+    pub looked: usize,
     pub outcome: Outcome,
 }
 
@@ -188,6 +190,7 @@ pub fn sweep_at(mut cache: NeighborCache, mut clock: Clock, iface: u8) -> Swept
                     slots: events,
                     len: 0,
                 },
+                looked: 0,
                 outcome: Outcome::Refused(why),
             };
         }
@@ -214,11 +217,13 @@ pub fn sweep_at(mut cache: NeighborCache, mut clock: Clock, iface: u8) -> Swept
         }
     }
     let mut count = 0;
+    let mut looked = 0;
     let mut place = 0;
     while place < len {
         let at = place;
         place += 1;
         let entry = cache.slots[at];
+        looked += 1;
         let addr = entry.addr;
         let timer = advance(entry, iface, now);
         match timer {
@@ -251,6 +256,7 @@ pub fn sweep_at(mut cache: NeighborCache, mut clock: Clock, iface: u8) -> Swept
             slots: events,
             len: count,
         },
+        looked: looked,
         outcome: Outcome::Done,
     }
 }
