@@ -64,6 +64,24 @@ pub enum Event {
     Failed(Addr),
 }
 
+/// What a sweep came to.
+#[derive(Debug, Clone, PartialEq, Eq)]
+pub struct Swept {
+    /// The entries that its probe part looked at; none if it was refused.
+    pub looked: usize,
+    /// The events, and the clock's deadline afterwards.
+    pub answer: Result<(Vec<Event>, Option<u64>), Refused>,
+}
+
+impl Swept {
+    pub(crate) fn refused(number: Refused) -> Swept {
+        Swept {
+            looked: 0,
+            answer: Err(number),
+        }
+    }
+}
+
 #[derive(Debug, Clone, PartialEq, Eq)]
 pub enum Polled {
     Off,
@@ -172,8 +190,8 @@ pub trait Side {
     fn get(&mut self, iface: u8, addr: Addr) -> Result<Option<Shown>, Refused>;
     fn remove(&mut self, iface: u8, addr: Addr) -> Result<Option<Shown>, Refused>;
     fn clear(&mut self, iface: u8) -> Result<(), Refused>;
-    /// The events, and the clock's deadline afterwards. The clock is not the one that is held.
-    fn sweep(&mut self, iface: u8, now: u64, deadline: Option<u64>) -> Result<(Vec<Event>, Option<u64>), Refused>;
+    /// The clock is not the one that is held.
+    fn sweep(&mut self, iface: u8, now: u64, deadline: Option<u64>) -> Swept;
     /// All entries in table order.
     fn cache(&mut self) -> Vec<(u8, Addr, Entry)>;
     /// All entries as the application sees them.
@@ -350,6 +368,10 @@ pub(crate) fn events(events: Vec<Event>) -> String {
     })
 }
 
+pub(crate) fn refused(number: Refused) -> String {
+    format!("refused {number}")
+}
+
 fn bit(b: bool) -> u8 {
     b.into()
 }
@@ -391,7 +413,7 @@ pub fn answer_bytes(side: &mut dyn Side, line: &[u8]) -> String {
             "bad line".into()
         }
         Ok(Ok(text)) => text,
-        Ok(Err(number)) => format!("refused {number}"),
+        Ok(Err(number)) => refused(number),
     }
 }
 
@@ -594,9 +616,13 @@ fn call(side: &mut dyn Side, line: &[u8]) -> Result<Result<String, Refused>, Bad
             f.end()?;
             // The held clock is lent.
             side.clock(now, deadline);
-            side.sweep(iface, now, deadline).map(|(reported, left)| {
-                side.clock(now, left);
-                format!("deadline {} events {}", time(left), events(reported))
+            let Swept { looked, answer } = side.sweep(iface, now, deadline);
+            Ok(match answer {
+                Ok((reported, left)) => {
+                    side.clock(now, left);
+                    format!("deadline {} looked {looked} events {}", time(left), events(reported))
+                }
+                Err(number) => format!("{} looked {looked}", refused(number)),
             })
         }
         "cache" => {

@@ -262,7 +262,7 @@ impl Host<'_> {
         }
         self.range.inner(time + 1_000);
         let now = self.range.inner(time);
-        for event in self.world.sweep(0, now, None).0 {
+        for event in self.world.sweep(0, now, None).events {
             match event {
                 Event::Retransmit(addr) => writeln!(self.out, "{time} retransmit {}", text::hex(&addr)).unwrap(),
                 Event::Failed(addr) => writeln!(self.out, "{time} failed {}", text::hex(&addr)).unwrap(),

@@ -2,7 +2,7 @@
 
 use crate::calls::{
     Addr, AddrKind, Entry, Event, Header, Held, Lookup, Mac, Next, Phased, Polled, Preferred, Refused, Route, Shown, Side,
-    Soliciting, ToWrite,
+    Soliciting, Swept, ToWrite,
 };
 use crate::real::known;
 use model::mark;
@@ -205,14 +205,18 @@ impl Side for Modelled {
         done(self.0.clear(iface as usize))
     }
 
-    fn sweep(&mut self, iface: u8, now: u64, deadline: Option<u64>) -> Result<(Vec<Event>, Option<u64>), Refused> {
+    fn sweep(&mut self, iface: u8, now: u64, deadline: Option<u64>) -> Swept {
         let mut clock = model::Clock { now, deadline };
-        let events = done(self.0.sweep(iface as usize, &mut clock))?;
-        let events = events.into_iter().map(|e| match e {
+        let swept = self.0.sweep(iface as usize, &mut clock);
+        let event = |e| match e {
             model::Probe::Retransmit(addr) => Event::Retransmit(addr.to_be_bytes()),
             model::Probe::Failed(addr) => Event::Failed(addr.to_be_bytes()),
-        });
-        Ok((events.collect(), clock.deadline))
+        };
+        let answer = done(swept.answer).map(|events| (events.into_iter().map(event).collect(), clock.deadline));
+        Swept {
+            looked: swept.looked,
+            answer,
+        }
     }
 
     fn cache(&mut self) -> Vec<(u8, Addr, Entry)> {

@@ -2,7 +2,7 @@
 
 use crate::calls::{
     Addr, AddrKind, Entry, Event, Header, Held, Lookup, Mac, Next, Phased, Polled, Preferred, Refused, Route, Shown, Side,
-    Soliciting, ToWrite,
+    Soliciting, Swept, ToWrite,
 };
 use crate::range::{Range, link_local};
 use xarxa::world::{self, Kept, Phase, RouteError, Solicitor, World};
@@ -311,17 +311,26 @@ impl Side for Real {
         Ok(())
     }
 
-    fn sweep(&mut self, iface: u8, now: u64, deadline: Option<u64>) -> Result<(Vec<Event>, Option<u64>), Refused> {
-        let now = taken(now)?;
-        let iface = known(iface)?;
+    /// A refused one makes no real call.
+    fn sweep(&mut self, iface: u8, now: u64, deadline: Option<u64>) -> Swept {
+        let (now, iface) = match taken(now).and_then(|now| Ok((now, known(iface)?))) {
+            Ok(checked) => checked,
+            Err(number) => return Swept::refused(number),
+        };
         self.range.inner(now + 1_000);
         let (now, deadline) = self.inner(now, deadline);
-        let (events, deadline) = self.world.sweep(iface, now, deadline);
-        let events = events.into_iter().map(|e| match e {
+        let entries = self.world.entries().len();
+        let swept = self.world.sweep(iface, now, deadline);
+        let calls = swept.calls;
+        assert!(calls <= entries + 1, "{calls} calls for events over {entries} entries, at most one for each and one that finds none");
+        let events = swept.events.into_iter().map(|e| match e {
             world::Event::Retransmit(addr) => Event::Retransmit(addr),
             world::Event::Failed(addr) => Event::Failed(addr),
         });
-        Ok((events.collect(), deadline.map(|t| self.outer(t))))
+        Swept {
+            looked: swept.looked,
+            answer: Ok((events.collect(), swept.deadline.map(|t| self.outer(t)))),
+        }
     }
 
     fn cache(&mut self) -> Vec<(u8, Addr, Entry)> {

@@ -24,6 +24,7 @@ mod adverts;
 mod answers;
 mod bad;
 mod deadlines;
+mod looked;
 mod options;
 mod tables;
 mod turns;
@@ -71,15 +72,19 @@ pub const ANSWERS: &[(&str, &[&str])] = &[
     (
         "sweep",
         &[
-            "deadline - events 0",
-            "deadline 1* events 0",
-            "deadline * events 1; retransmit *",
-            "deadline * events 1; failed *",
-            "deadline * events 2; failed *; retransmit *",
-            "deadline * events 2; retransmit *; failed *",
-            "deadline * events 16; *",
-            "refused 3",
-            "refused 7",
+            "deadline - looked 0 events 0",
+            "deadline - looked 1 events 0",
+            "deadline 1* looked 1 events 0",
+            "deadline * looked 16 events 0",
+            "deadline * looked 1 events 1; retransmit *",
+            "deadline * looked 1 events 1; failed *",
+            "deadline * looked 16 events 1; failed *",
+            "deadline * looked * events 2; failed *; retransmit *",
+            "deadline * looked * events 2; retransmit *; failed *",
+            "deadline * looked 16 events 16; retransmit *",
+            "deadline - looked 16 events 16; failed *",
+            "refused 3 looked 0",
+            "refused 7 looked 0",
             "bad line",
         ],
     ),
@@ -444,6 +449,8 @@ pub fn all() -> Vec<Scene> {
         adverts::adverts(),
         turns::turns(),
         bad::bad_lines(),
+        // Behind all others, which keep their numbers.
+        looked::looked(),
     ];
     groups.into_iter().flatten().collect()
 }

@@ -68,7 +68,7 @@ impl Heard {
         match self {
             Heard::Ok => "heard ok".into(),
             Heard::Off => "heard off".into(),
-            Heard::Refused(number) => format!("heard refused {number}"),
+            Heard::Refused(number) => format!("heard {}", calls::refused(number)),
         }
     }
 }
@@ -79,7 +79,7 @@ impl Action {
             Action::Nothing => "nothing".into(),
             Action::Heard(heard) => heard.text(),
             Action::HeardFrom(heard, mac) => format!("{} from {}", heard.text(), calls::hex(mac)),
-            Action::Refused(number) => format!("refused {number}"),
+            Action::Refused(number) => calls::refused(*number),
             Action::Send(mac) => format!("send {}", calls::hex(mac)),
             Action::Wait(dropped) => format!("wait {}", calls::handles(dropped.as_slice())),
             Action::Solicit(dropped) => format!("solicit {}", calls::handles(dropped.as_slice())),
@@ -98,7 +98,7 @@ impl Report {
             Ok(Polled::Nothing) => "nothing".into(),
             Ok(Polled::NoRoom) => "noroom".into(),
             Ok(Polled::Solicit(_)) => "solicit".into(),
-            Err(number) => format!("refused {number}"),
+            Err(number) => calls::refused(*number),
         };
         let (dropped, events) = (calls::handles(&self.dropped), calls::events(self.events.clone()));
         format!("{} {ready} {dropped} poll {polled} events {events}", self.action.text())
@@ -190,8 +190,8 @@ pub fn turn(side: &mut dyn Side, now: u64, input: &Input, buffer: &mut [u8]) -> 
         if let Polled::Solicit(message) = &polled {
             buffer[..message.len()].copy_from_slice(message);
         }
-        let (events, swept_until) = side.sweep(CARD, now, polled_until).expect("the time is taken");
-        let (again, settled_until) = side.sweep(CARD, now, swept_until).expect("the time is taken");
+        let (events, swept_until) = side.sweep(CARD, now, polled_until).answer.expect("the time is taken");
+        let (again, settled_until) = side.sweep(CARD, now, swept_until).answer.expect("the time is taken");
         assert!(again.is_empty(), "a second sweep at the same time reports nothing");
         report.polled = Ok(polled);
         report.events = events;

@@ -324,6 +324,25 @@ pub enum Probe {
     Failed(Addr),
 }
 
+/// What a sweep came to.
+#[derive(Debug, Clone, PartialEq, Eq)]
+pub struct Swept {
+    /// The entries that the calls for events looked at.
+    pub looked: usize,
+    pub answer: Answer<Vec<Probe>>,
+}
+
+impl Swept {
+    /// It looked at none.
+    fn refused(number: u32) -> Swept {
+        mark!("calls.looked-refused");
+        Swept {
+            looked: 0,
+            answer: Answer::Refused(number),
+        }
+    }
+}
+
 #[derive(Debug, Clone, PartialEq, Eq)]
 pub enum Sent {
     Nothing,
@@ -1617,18 +1636,18 @@ impl Model {
         Answer::Done(())
     }
 
-    pub fn sweep(&mut self, iface: usize, clock: &mut Clock) -> Answer<Vec<Probe>> {
+    pub fn sweep(&mut self, iface: usize, clock: &mut Clock) -> Swept {
         let now = clock.now;
         if now > LATEST {
             mark!("sweep.3");
             if iface >= IFACES {
                 mark!("calls.sweep-3-before-7");
             }
-            return Answer::Refused(3);
+            return Swept::refused(3);
         }
         if iface >= IFACES {
             mark!("calls.sweep-7");
-            return Answer::Refused(7);
+            return Swept::refused(7);
         }
         let given = clock.deadline;
         // The expiry pass.
@@ -1666,12 +1685,20 @@ impl Model {
                 State::Stale { .. } => mark!("sweep.stays-stale"),
             }
         }
-        // The probe events from place 0 until none.
+        // The probe events from place 0 until none. Each entry that is taken to look at is counted.
         let mut events = Vec::new();
+        let mut looked = 0;
         let mut place = 0;
         let mut moved_in = false;
         while place < self.neighbours.len() {
             let n = self.neighbours[place];
+            looked += 1;
+            if moved_in {
+                mark!("calls.looked-moved-in");
+            }
+            if n.iface != iface {
+                mark!("calls.looked-other-interface");
+            }
             let State::Incomplete { probes, due } = n.state else {
                 if moved_in {
                     mark!("sweep.moved-in-not-due");
@@ -1748,7 +1775,16 @@ impl Model {
             }
             _ => mark!("sweep.several-events"),
         }
-        Answer::Done(events)
+        match events.len() {
+            0 if self.neighbours.is_empty() => mark!("calls.looked-empty"),
+            0 => mark!("calls.looked-none-due"),
+            2.. if self.neighbours.is_empty() => mark!("calls.looked-all-fail"),
+            _ => {}
+        }
+        Swept {
+            looked,
+            answer: Answer::Done(events),
+        }
     }
 
     // ---- the waiting packets

@@ -322,7 +322,7 @@ pub fn apply(model: &mut Model, time: u64, event: &Event, out: &mut String) {
             if off {
                 mark!("off.sweep-goes-on");
             }
-            match model.sweep(0, &mut clock) {
+            match model.sweep(0, &mut clock).answer {
                 Answer::Done(events) => {
                     for event in events {
                         match event {

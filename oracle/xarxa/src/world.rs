@@ -39,6 +39,18 @@ pub enum Event {
     Failed(Addr),
 }
 
+/// What a sweep came to.
+#[derive(Debug, Clone, PartialEq, Eq)]
+pub struct Swept {
+    pub events: Vec<Event>,
+    /// The clock's deadline afterwards.
+    pub deadline: Option<u32>,
+    /// The entries that the calls for events looked at.
+    pub looked: usize,
+    /// The calls for events, with the last, which found none.
+    pub calls: usize,
+}
+
 #[derive(Debug, Clone, Copy, PartialEq, Eq)]
 pub enum State {
     Started,
@@ -555,20 +567,40 @@ impl World {
         self.cache().clear_iface(IfaceHandle::new(iface));
     }
 
-    /// One expiry pass, then the probe events from place 0 until none; the clock's deadline comes back.
-    pub fn sweep(&mut self, iface: usize, now: u32, deadline: Option<u32>) -> (Vec<Event>, Option<u32>) {
+    /// One expiry pass, then the calls for events from place 0 until one finds none. How many entries a call looked at is read off the real
+    /// cursor: as many as it went on by, and one more for a failure, at whose place it stays.
+    pub fn sweep(&mut self, iface: usize, now: u32, deadline: Option<u32>) -> Swept {
+        let handle = IfaceHandle::new(iface);
         let mut clock = Clock::probe(at(now), deadline.map(at));
         let cache = self.cache();
         cache.expire(&mut clock);
         let mut events = Vec::new();
+        let (mut looked, mut calls) = (0, 0);
         let mut cursor = 0;
-        while let Some(event) = cache.poll_retransmit(IfaceHandle::new(iface), at(now), &mut cursor) {
-            events.push(match event {
-                ProbeEvent::Retransmit(addr) => Event::Retransmit(octets(addr)),
-                ProbeEvent::Failed(addr) => Event::Failed(octets(addr)),
-            });
+        loop {
+            let place = cursor;
+            let event = cache.poll_retransmit(handle, at(now), &mut cursor);
+            calls += 1;
+            looked += cursor.checked_sub(place).expect("the cursor does not go back");
+            match event {
+                None => break,
+                Some(ProbeEvent::Retransmit(addr)) => {
+                    let stays = cache.probe_entries().get(cursor).is_some_and(|(key, _)| *key == (handle, addr));
+                    assert!(!stays, "the cursor leaves an entry that is retransmitted");
+                    events.push(Event::Retransmit(octets(addr)));
+                }
+                Some(ProbeEvent::Failed(addr)) => {
+                    looked += 1;
+                    events.push(Event::Failed(octets(addr)));
+                }
+            }
         }
-        (events, clock.probe_deadline().map(|t| t.as_millis()))
+        Swept {
+            events,
+            deadline: clock.probe_deadline().map(|t| t.as_millis()),
+            looked,
+            calls,
+        }
     }
 
     /// The listing, all interfaces, in table order.
