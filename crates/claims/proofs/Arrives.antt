@@ -140,13 +140,13 @@ unfolding dropAddr
 drop-keeps a c es n h = any-first (isAddr a) (isAddr c) gone [] es h (λ x e u. absurd (n (sym (same-cidr (x .cidr) c e) ∙ same-cidr (x .cidr) a u)))
 
 module _ (hw : HardwareAddress) (a : Ipv6Cidr) (now : Instant) where
-  step-keeps : (t : IfaceAddrs) (p : Prefix) → (FormsWith hw a p → isAfter (p .«valid_until») now ≡ true) → anyOf (isAddr a) (addrsOf t) ≡ true
+  pub step-keeps : (t : IfaceAddrs) (p : Prefix) → (FormsWith hw a p → isAfter (p .«valid_until») now ≡ true) → anyOf (isAddr a) (addrsOf t) ≡ true
       → anyOf (isAddr a) (addrsOf (syncPrefix hw now t p)) ≡ true
   step-keeps t p v h =
       on-sync hw now (λ es. anyOf (isAddr a) es ≡ true) t p (λ f. h) (λ c f e. put-keeps a c (preferredOf now (p .«preferred_until»)) (addrsOf t) h)
       (λ c f e. drop-keeps a c (addrsOf t) (λ same. true≢false (sym (v (f ∙ ap Addr same)) ∙ e)) h)
 
-  step-comes : (t : IfaceAddrs) (p : Prefix) → FormsWith hw a p → isAfter (p .«valid_until») now ≡ true → length (addrsOf t) < 8
+  pub step-comes : (t : IfaceAddrs) (p : Prefix) → FormsWith hw a p → isAfter (p .«valid_until») now ≡ true → length (addrsOf t) < 8
       → anyOf (isAddr a) (addrsOf (syncPrefix hw now t p)) ≡ true
   step-comes t p g v l =
       on-sync hw now (λ es. anyOf (isAddr a) es ≡ true) t p (λ f. absurd (nothing-formed a (sym f ∙ g)))
@@ -160,7 +160,7 @@ module _ (hw : HardwareAddress) (a : Ipv6Cidr) (now : Instant) where
       on-sync hw now (λ es. length es ≤ length (addrsOf t) + 1) t p (λ f. omega arith) (λ c f e. put-length c (preferredOf now (p .«preferred_until»)) (addrsOf t))
       (λ c f e. drop-length c (addrsOf t))
 
-  fold-keeps : (ps : List Prefix) (t : IfaceAddrs) → All (λ p. FormsWith hw a p → isAfter (p .«valid_until») now ≡ true) ps → anyOf (isAddr a) (addrsOf t) ≡ true
+  pub fold-keeps : (ps : List Prefix) (t : IfaceAddrs) → All (λ p. FormsWith hw a p → isAfter (p .«valid_until») now ≡ true) ps → anyOf (isAddr a) (addrsOf t) ≡ true
       → anyOf (isAddr a) (addrsOf (foldOver (syncPrefix hw now) t ps)) ≡ true
   fold-keeps [] t l h = h
   fold-keeps (p ∷ ps) t l h = fold-keeps ps (syncPrefix hw now t p) (l .1) (step-keeps t p (l .0) h)

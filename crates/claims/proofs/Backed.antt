@@ -1,7 +1,7 @@
 -- Every SLAAC address in a host that calls made has a prefix that forms it. Assumes nothing.
 use Prim.Native.Nat.{ℕ, _≤_}
-use borrow.Author.Tests.{eq-eqb}
-use lib.Dec.{ltb}
+use borrow.Author.Tests.{eq-eqb, eqb-true}
+use lib.Dec.{ltb, eqb}
 use lib.ListN.{length}
 use mathlib.Core.Bool.{Bool, true, false, cond, not, _&&_, true≢false}
 use mathlib.Core.List.{List, [], _∷_, _++_, append-assoc}
@@ -34,7 +34,7 @@ use Rattle.time.specs.ClockRules.{isAfter}
 use Rattle.time.specs.TimeRules.{addOf, secondsOf}
 use Rattle.time.specs.declared.Duration.{Duration}
 use Rattle.time.specs.declared.Instant.{Instant}
-use Rattle.wire.specs.Rfc2464.{formedOf}
+use Rattle.wire.specs.Rfc2464.{formedAddr, formedOf}
 use Rattle.wire.specs.Rfc4291.{sameCidr}
 use Rattle.wire.specs.declared.error.Check.the-variants.{Fine, Refused as Fails}
 use Rattle.wire.specs.declared.error.Check.{Check}
@@ -54,6 +54,25 @@ addr-inj a c e = cc
 
 pub nothing-formed : (a : Ipv6Cidr) → Nothing ≡ Addr a → ⊥
 nothing-formed a e = let z : _≡_ {A = ℕ} 0 1 = cc in omega arith
+
+-- "only length 64 forms an address"
+pub formed-is : (hw : HardwareAddress) (c a : Ipv6Cidr) → formedOf hw c ≡ Addr a → (c .«prefix_len» ≡ 64) × (formedAddr hw c ≡ a)
+unfolding formedOf
+formed-is hw c a = go (eqb (c .«prefix_len») 64) refl
+  where
+    go : (b : Bool) → eqb (c .«prefix_len») 64 ≡ b → cond {A = Formed} b (Addr (formedAddr hw c)) Nothing ≡ Addr a → (c .«prefix_len» ≡ 64) × (formedAddr hw c ≡ a)
+    go true e q = (eqb-true (c .«prefix_len») 64 e, addr-inj a (formedAddr hw c) q)
+    go false e q = absurd (nothing-formed a q)
+
+-- The application's address: nothing changes, or it comes at the end
+
+pub added-cases : (P : List IfaceAddr → Type 0) (i : ℕ) (t : IfaceAddrs) (c : Ipv6Cidr) (r : Added) → AddedTo t i c r → P (addrsOf t) → P (addrsOf t ++ (manualAddr c ∷ []))
+    → P (addrsOf (r .addrs))
+added-cases P i t c r p h g = subst (λ (q : Added). P (addrsOf (q .addrs))) (sym (p .is)) (by (addrCheck i c (addrsOf t)))
+  where
+    by : (x : Check) → P (addrsOf (addAddrBy x t c .addrs))
+    by (Fails why) = h
+    by Fine = subst P (sym (addrs-of t (addrsOf t ++ (manualAddr c ∷ [])))) g
 
 -- One prefix of the sync: what it does to the entries
 
@@ -86,7 +105,7 @@ module _ (a : Ipv6Cidr) where
   none-and : (x y : Bool) → x ≡ false → (x && y) ≡ false
   none-and x y e = rw e
 
-  put-none : (c : Ipv6Cidr) (q : Preferred) → sameCidr c a ≡ false → (es : List IfaceAddr) → has es ≡ false → has (putAddr c q es) ≡ false
+  pub put-none : (c : Ipv6Cidr) (q : Preferred) → sameCidr c a ≡ false → (es : List IfaceAddr) → has es ≡ false → has (putAddr c q es) ≡ false
   unfolding putAddr
   put-none c q n es h =
       none-first (isSlaacAddr a) (isAddr c) (refreshed q) (ifRoom 8 es (slaacAddr c q)) es h
@@ -102,7 +121,7 @@ module _ (a : Ipv6Cidr) where
           go true = rw other
           go false = rw u
 
-  drop-none : (c : Ipv6Cidr) (es : List IfaceAddr) → has es ≡ false → has (dropAddr c es) ≡ false
+  pub drop-none : (c : Ipv6Cidr) (es : List IfaceAddr) → has es ≡ false → has (dropAddr c es) ≡ false
   unfolding dropAddr
   drop-none c es h = none-first (isSlaacAddr a) (isAddr c) gone [] es h refl same
     where
@@ -112,6 +131,14 @@ module _ (a : Ipv6Cidr) where
           go : (b : Bool) → anyOf (isSlaacAddr a) (cond b [] (x ∷ [])) ≡ false
           go true = refl
           go false = rw u
+
+  -- what the application adds is not SLAAC's
+  pub manual-none : (c : Ipv6Cidr) → has (manualAddr c ∷ []) ≡ false
+  manual-none c = go (sameCidr c a)
+    where
+      go : (b : Bool) → cond (b && false) true false ≡ false
+      go true = refl
+      go false = refl
 
   absent : (es : List IfaceAddr) → length (entriesOf a es) ≤ 0 → has es ≡ false
   absent [] h = refl
@@ -253,7 +280,7 @@ module _ (hw : HardwareAddress) (a : Ipv6Cidr) where
       some-with (FormsWith hw a) (s .prefixes) (atFirst (isPrefix c) (prefixEnds now) [] (prefixesOf s))
       (some-first (FormsWith hw a) (isPrefix c) (prefixEnds now) [] (prefixesOf s) (λ x e g. inl g) h)
 
-  some-process : (now : Instant) (s : Slaac) (o : PrefixInformation) → Some (FormsWith hw a) (prefixesOf s) → Some (FormsWith hw a) (prefixesOf (processPrefix now s o))
+  pub some-process : (now : Instant) (s : Slaac) (o : PrefixInformation) → Some (FormsWith hw a) (prefixesOf s) → Some (FormsWith hw a) (prefixesOf (processPrefix now s o))
   unfolding processPrefix
   some-process now s o h = go (isSkipped o) (ltb 0 (o .«valid_lifetime»))
     where
@@ -286,18 +313,9 @@ module _ (hw : HardwareAddress) (a : Ipv6Cidr) where
         prefix = λ h. g .prefix (back (isSlaacAddr a) (addrsOf t) (addrsOf (r .addrs)) none-added h);
       }
     where
-      by : (x : Check) → has a (addrsOf t) ≡ false → has a (addrsOf (addAddrBy x t c .addrs)) ≡ false
-      by (Fails why) h = h
-      by Fine h =
-          subst (λ (es : List IfaceAddr). has a es ≡ false) (sym (addrs-of t (addrsOf t ++ (manualAddr c ∷ []))))
-          (none-append (isSlaacAddr a) (addrsOf t) (manualAddr c ∷ []) h (manual (sameCidr c a)))
-        where
-          manual : (b : Bool) → cond (b && false) true false ≡ false
-          manual true = refl
-          manual false = refl
-
       none-added : has a (addrsOf t) ≡ false → has a (addrsOf (r .addrs)) ≡ false
-      none-added h = subst (λ (q : Added). has a (addrsOf (q .addrs)) ≡ false) (sym (p .is)) (by (addrCheck i c (addrsOf t)) h)
+      none-added h =
+          added-cases (λ es. has a es ≡ false) i t c r p h (none-append (isSlaacAddr a) (addrsOf t) (manualAddr c ∷ []) h (manual-none a c))
 
   cleared : (es : List IfaceAddr) → has a (kept isFromSlaac es) ≡ false
   cleared [] = refl
@@ -315,7 +333,7 @@ module _ (hw : HardwareAddress) (a : Ipv6Cidr) where
   unfolding clearAddrs
   none-left t = subst (λ (es : List IfaceAddr). has a es ≡ false) (sym (addrs-of t (kept isFromSlaac (addrsOf t)))) (cleared (addrsOf t))
 
-  based-calls : (i : ℕ) → Keeps i hw (λ c. Unit {0}) (λ s t r. Based s t)
+  pub based-calls : (i : ℕ) → Keeps i hw (λ c. Unit {0}) (λ s t r. Based s t)
   unfolding syncAddrs leaveExpired
   based-calls i = record {
     discovery = λ s t r d g. record { once = g .once; off = g .off; prefix = g .prefix };
@@ -339,7 +357,7 @@ module _ (hw : HardwareAddress) (a : Ipv6Cidr) where
   based-run {i} cs r g = keep-run (λ c. Unit {0}) (λ s t r. Based s t) (based-calls i) r (all-of (λ c. Unit {0}) (λ c. tt) cs) g
 
   -- none at all, so none of that address
-  none-of : (es : List IfaceAddr) → anyOf isFromSlaac es ≡ false → has a es ≡ false
+  pub none-of : (es : List IfaceAddr) → anyOf isFromSlaac es ≡ false → has a es ≡ false
   none-of [] h = refl
   none-of (e ∷ es) h = go (isAddr a e) (either-none (isFromSlaac e) (anyOf isFromSlaac es) h) (none-of es)
     where

@@ -3,12 +3,14 @@ use Rattle.autoconf.proofs.Distinct.{addresses-once}
 use Rattle.claims.proofs.Application.{never-goes}
 use Rattle.claims.proofs.Arrives.{arrives}
 use Rattle.claims.proofs.Caches.{on-caches}
+use Rattle.claims.proofs.Cleared.{cleared}
 use Rattle.claims.proofs.Clocks.{clocks}
 use Rattle.claims.proofs.Demand3.{demand3}
 use Rattle.claims.proofs.Determined.{determined}
 use Rattle.claims.proofs.Early.{not-early}
 use Rattle.claims.proofs.Endless.{endless}
 use Rattle.claims.proofs.Examples.{examples}
+use Rattle.claims.proofs.Housed.{housed}
 use Rattle.claims.proofs.Lasting.{lasting}
 use Rattle.claims.proofs.Looks.{looks}
 use Rattle.claims.proofs.MainLoop.{main-loop}
@@ -21,7 +23,6 @@ use Rattle.claims.proofs.Refusals.{refusals}
 use Rattle.claims.proofs.RoundTrips.{round-trips}
 use Rattle.claims.proofs.RoutesArrive.{routes-arrive}
 use Rattle.claims.proofs.SameSource.{same-source}
-use Rattle.claims.proofs.Stranded.{stranded}
 use Rattle.claims.proofs.Traces.{traces}
 use Rattle.claims.proofs.Wake.{wake}
 use Rattle.claims.proofs.WakePoll.{wake-poll}
@@ -50,7 +51,8 @@ claims = record {
   not-early = not-early;
   arrives = arrives;
   routes-arrive = routes-arrive;
-  stranded = stranded;
+  cleared = cleared;
+  housed = housed;
   lasting = lasting;
   not-deprecated = not-deprecated;
   never-goes = never-goes;

@@ -40,6 +40,8 @@ examples = record {
   P9-answer = refl;
   P11 = refl;
   formed-first = refl;
+  one-entry = refl;
+  expired = refl;
   no-address = refl;
-  entry-stays = refl;
+  entry-gone = refl;
 }

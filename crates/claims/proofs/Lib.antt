@@ -29,7 +29,8 @@ pub mod Backed
 pub mod Polling
 pub mod Arrives
 pub mod SameSource
-pub mod Stranded
+pub mod Cleared
+pub mod Housed
 pub mod Routed
 pub mod RoutesArrive
 pub mod Lasting

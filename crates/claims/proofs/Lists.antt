@@ -205,14 +205,19 @@ module _ {A : Type 0} (P : A → Type 0) where
   all-after [] ys h = h
   all-after (x ∷ xs) ys h = all-after xs ys (h .1)
 
+  -- what comes at the end is so if none passes
+  pub all-first-or : (test : A → Bool) (f : A → List A) (new xs : List A) → All P xs → (anyOf test xs ≡ false → All P new)
+      → ((x : A) → test x ≡ true → P x → All P (f x)) → All P (atFirst test f new xs)
+  all-first-or test f new [] h n m = n refl
+  all-first-or test f new (x ∷ xs) h n m = go (test x) refl (λ k. all-first-or test f new xs (h .1) k m)
+    where
+      go : (b : Bool) → test x ≡ b → ((anyOf test xs ≡ false → All P new) → All P (atFirst test f new xs)) → All P (cond b (f x ++ xs) (x ∷ atFirst test f new xs))
+      go true e r = all-append (f x) xs (m x e (h .0)) (h .1)
+      go false e r = (h .0, r (λ q. n (none-either (test x) (anyOf test xs) e q)))
+
   pub all-first : (test : A → Bool) (f : A → List A) (new xs : List A) → All P xs → All P new
       → ((x : A) → test x ≡ true → P x → All P (f x)) → All P (atFirst test f new xs)
-  all-first test f new [] h n m = n
-  all-first test f new (x ∷ xs) h n m = go (test x) refl (all-first test f new xs (h .1) n m)
-    where
-      go : (b : Bool) → test x ≡ b → All P (atFirst test f new xs) → All P (cond b (f x ++ xs) (x ∷ atFirst test f new xs))
-      go true e r = all-append (f x) xs (m x e (h .0)) (h .1)
-      go false e r = (h .0, r)
+  all-first test f new xs h n m = all-first-or test f new xs h (λ q. n) m
 
   pub all-if : (b : Bool) (x : A) → P x → All P (cond b (x ∷ []) [])
   all-if true x h = (h, tt)

@@ -9,7 +9,7 @@ use mathlib.Core.List.{List}
 use mathlib.Core.Path.{_≡_, refl, ap, _∙_}
 use native.Mathlib.Omega.{arith}
 use Rattle.claims.specs.RoundTrips.{RoundTrips}
-use Rattle.ndisc.proofs.RoundTrip.{source-back, source-written, target-written, prefix-written, mtu-written, untouched}
+use Rattle.ndisc.proofs.RoundTrip.{source-back, source-written, target-written, prefix-written, prefix-as-given, mtu-written, untouched}
 use Rattle.ndisc.specs.Rfc4861Messages.{Solicits, solicitation}
 use Rattle.ndisc.specs.Rfc4861Options.{checkedOf}
 use Rattle.ndisc.specs.declared.ndisc.Solicited.the-variants.{Written, NoRoom}
@@ -46,6 +46,7 @@ round-trips =
       target = λ a msg at msg'. target-written msg at msg' a;
       prefix = λ p msg at msg'. prefix-written msg at msg' p;
       mtu = λ n msg at msg'. mtu-written msg at msg' n;
+      prefix-as-given = λ p msg at msg'. prefix-as-given msg at msg' p;
       before = λ msg at bs r msg' w. untouched msg at bs r msg' w .before;
       after = λ msg at bs r msg' w. untouched msg at bs r msg' w .after;
       size = λ msg at bs r msg' w. untouched msg at bs r msg' w .size;

@@ -1,16 +1,16 @@
 -- The source to send from stays. Assumes nothing.
 use Prim.Native.Nat.{ℕ, _≤_}
-use lib.Dec.{eqb, ltb}
+use lib.Dec.{ltb}
 use lib.ListN.{length}
-use mathlib.Core.Bool.{Bool, true, false, cond, not, _||_, true≢false}
+use mathlib.Core.Bool.{Bool, true, false, cond, true≢false}
 use mathlib.Core.List.{List, [], _∷_, _++_}
 use mathlib.Core.Path.{_≡_, refl, sym, ap, _∙_, subst}
 use native.Mathlib.Omega.{arith}
-use Rattle.claims.proofs.Backed.{addr-inj, nothing-formed, on-sync}
+use Rattle.claims.proofs.Backed.{formed-is, on-sync}
 use Rattle.claims.proofs.Keeps.{Keeps, keep-step, keep-run, call-keeps, restart-keeps}
-use Rattle.claims.proofs.Lists.{or-none, either-none, all-of, all-append, all-first, all-if, all-kept, all-with}
+use Rattle.claims.proofs.Lists.{either-none, all-of, all-append, all-first, all-if, all-kept, all-with}
 use Rattle.claims.proofs.Sleep.{sleep}
-use Rattle.claims.proofs.Standing.{same-cidr, learned-all, leave-all}
+use Rattle.claims.proofs.Standing.{same-cidr, unskipped, learned-all, leave-all}
 use Rattle.claims.specs.Arrives.{endHost}
 use Rattle.claims.specs.Clocks.{Poll, polled as lent, polled-at as valued}
 use Rattle.claims.specs.Examples.{linkLocal}
@@ -56,15 +56,14 @@ use Rattle.time.specs.ClockRules.{idle}
 use Rattle.time.specs.declared.Clock.{Clock}
 use Rattle.time.specs.declared.Instant.{Instant}
 use Rattle.wire.specs.Refusals.{timeCheck, keyCheck, decided}
-use Rattle.wire.specs.Rfc2464.{formedAddr, formedOf}
-use Rattle.wire.specs.Rfc4291.{isLinkLocal, isMulticast}
+use Rattle.wire.specs.Rfc2464.{formedOf}
+use Rattle.wire.specs.Rfc4291.{isLinkLocal}
 use Rattle.wire.specs.declared.error.Check.the-variants.{Fine, Refused as Fails}
 use Rattle.wire.specs.declared.error.Check.{Check}
 use Rattle.wire.specs.declared.error.Outcome.the-variants.{Refused as NotDone, Done}
 use Rattle.wire.specs.declared.error.Outcome.{Outcome}
 use Rattle.wire.specs.declared.ethernet.HardwareAddress.{HardwareAddress}
-use Rattle.wire.specs.declared.ipv6.Formed.the-variants.{Nothing, Addr}
-use Rattle.wire.specs.declared.ipv6.Formed.{Formed}
+use Rattle.wire.specs.declared.ipv6.Formed.the-variants.{Addr}
 use Rattle.wire.specs.declared.ipv6.Ipv6Addr.{Ipv6Addr}
 use Rattle.wire.specs.declared.ipv6.Ipv6Cidr.{Ipv6Cidr}
 
@@ -154,19 +153,7 @@ more-same a e (x ∷ es) h = go (isLocal x) h (more-same a e es)
 -- Prefixes
 
 formed-wide : (hw : HardwareAddress) (c a : Ipv6Cidr) → isLinkLocal (c .address) ≡ false → formedOf hw c ≡ Addr a → isLinkLocal (a .address) ≡ false
-unfolding formedOf
-formed-wide hw c a w = go (eqb (c .«prefix_len») 64)
-  where
-    go : (b : Bool) → cond {A = Formed} b (Addr (formedAddr hw c)) Nothing ≡ Addr a → isLinkLocal (a .address) ≡ false
-    go true q = subst (λ (y : Ipv6Cidr). isLinkLocal (y .address) ≡ false) (addr-inj a (formedAddr hw c) q) w
-    go false q = absurd (nothing-formed a q)
-
--- "One is skipped if .. the prefix is link-local"
-unskipped-wide : (o : PrefixInformation) → isSkipped o ≡ false → isLinkLocal (o .prefix) ≡ false
-unskipped-wide o h =
-    or-none (ltb 128 (o .«prefix_len») || not (o .addrconf)) (isLinkLocal (o .prefix))
-    (or-none ((ltb 128 (o .«prefix_len») || not (o .addrconf)) || isLinkLocal (o .prefix)) (isMulticast (o .prefix))
-    (or-none (((ltb 128 (o .«prefix_len») || not (o .addrconf)) || isLinkLocal (o .prefix)) || isMulticast (o .prefix)) (ltb (o .«valid_lifetime») (o .«preferred_lifetime»)) h .0) .0) .1
+formed-wide hw c a w q = subst (λ (y : Ipv6Cidr). isLinkLocal (y .address) ≡ false) (formed-is hw c a q .1) w
 
 ends-wide : (now : Instant) (o : PrefixInformation) → o .«valid_lifetime» ≤ 0 → WidePrefix (prefixOf o now) → (x : Prefix) → isPrefix (cidrOf o) x ≡ true
     → All WidePrefix (prefixEnds now x)
@@ -199,7 +186,7 @@ module _ (Q : Source → Type 0) where
   learned : (s : Slaac) (source : Ipv6Addr) (msg : List ℕ) (now : Instant) → All WidePrefix (prefixesOf s) → All WidePrefix (prefixesOf (steps2to4 s source msg now))
   learned s source msg now h =
       learned-all WidePrefix ends-wide s source msg now h
-      (all-of (λ o. isSkipped o ≡ false → WidePrefix (prefixOf o now)) (λ o e. unskipped-wide o e) (prefixOptions (optionsIn msg)))
+      (all-of (λ o. isSkipped o ≡ false → WidePrefix (prefixOf o now)) (λ o e. unskipped o e .1) (prefixOptions (optionsIn msg)))
 
   added : (x : Check) (s : Slaac) (t : IfaceAddrs) (c : Ipv6Cidr) → Q (firstLocal (addrsOf t ++ (manualAddr c ∷ []))) → Good s t → Good s (addAddrBy x t c .addrs)
   added (Fails why) s t c q g = g

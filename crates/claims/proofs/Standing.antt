@@ -3,11 +3,11 @@ use Prim.Native.Nat.{ℕ, _+_, _≤_, _<_, min}
 use borrow.Author.Tests.{eqb-true, eq-eqb, ltb-false}
 use lib.Dec.{eqb, ltb}
 use lib.ListN.{length}
-use mathlib.Core.Bool.{Bool, true, false, cond, _&&_, true≢false}
+use mathlib.Core.Bool.{Bool, true, false, cond, not, _&&_, _||_, true≢false}
 use mathlib.Core.List.{List, [], _∷_, _++_}
 use mathlib.Core.Path.{_≡_, refl, sym, ap, _∙_, subst}
 use native.Mathlib.Omega.{arith}
-use Rattle.claims.proofs.Lists.{lift, any-append, any-first, any-kept, all-first, all-if, all-with, all-kept}
+use Rattle.claims.proofs.Lists.{lift, or-none, any-append, any-first, any-kept, all-first, all-if, all-with, all-kept}
 use Rattle.claims.specs.Early.{stands, Earlier, Reaches, LastsTo, routeStands, RouterLastsTo, RouterSpares}
 use Rattle.claims.specs.Lists.{All}
 use Rattle.autoconf.specs.AdvertRules.{optionsIn, prefixOptions, step2, steps2to4}
@@ -32,7 +32,7 @@ use Rattle.time.specs.declared.Expiry.the-variants.{At, Forever}
 use Rattle.time.specs.declared.Expiry.{Expiry}
 use Rattle.time.specs.declared.Instant.{Instant}
 use Rattle.wire.specs.Rfc2464.{formedOf}
-use Rattle.wire.specs.Rfc4291.{sameAddr, sameCidr}
+use Rattle.wire.specs.Rfc4291.{isLinkLocal, isMulticast, sameAddr, sameCidr}
 use Rattle.wire.specs.declared.ethernet.HardwareAddress.{HardwareAddress}
 use Rattle.wire.specs.declared.ipv6.Formed.the-variants.{Addr}
 use Rattle.wire.specs.declared.ipv6.Ipv6Addr.{Ipv6Addr}
@@ -127,6 +127,14 @@ at-once v now s z h = go v (eqb s infinite) refl h
     go (At u) false e r = omega arith
     go Forever false e r = r
 
+-- "One is skipped if prefix length > 128, .. the prefix is link-local"
+pub unskipped : (o : PrefixInformation) → isSkipped o ≡ false → (o .«prefix_len» ≤ 128) × (isLinkLocal (o .prefix) ≡ false)
+unskipped o e =
+    let first = or-none (((ltb 128 (o .«prefix_len») || not (o .addrconf)) || isLinkLocal (o .prefix)) || isMulticast (o .prefix)) _ e in
+    let second = or-none ((ltb 128 (o .«prefix_len») || not (o .addrconf)) || isLinkLocal (o .prefix)) _ (first .0) in
+    let third = or-none (ltb 128 (o .«prefix_len») || not (o .addrconf)) _ (second .0) in
+    (ltb-false 128 (o .«prefix_len») (or-none (ltb 128 (o .«prefix_len»)) _ (third .0) .0), third .1)
+
 -- what holds of every prefix: an advertisement keeps it if it holds of each prefix that is put, and of one that an option without a lifetime ends
 module _ (P : Prefix → Type 0)
     (ends : (now : Instant) (o : PrefixInformation) → o .«valid_lifetime» ≤ 0 → P (prefixOf o now) → (x : Prefix) → isPrefix (cidrOf o) x ≡ true → All P (prefixEnds now x)) where
@@ -143,7 +151,7 @@ module _ (P : Prefix → Type 0)
       all-with P (s .prefixes) (atFirst (isPrefix c) (prefixEnds now) [] (prefixesOf s))
       (all-first P (isPrefix c) (prefixEnds now) [] (prefixesOf s) h tt (λ x e q. g x e))
 
-  process-all : (now : Instant) (s : Slaac) (o : PrefixInformation) → All P (prefixesOf s) → (isSkipped o ≡ false → P (prefixOf o now))
+  pub process-all : (now : Instant) (s : Slaac) (o : PrefixInformation) → All P (prefixesOf s) → (isSkipped o ≡ false → P (prefixOf o now))
       → All P (prefixesOf (processPrefix now s o))
   unfolding processPrefix
   process-all now s o h g = go (isSkipped o) (ltb 0 (o .«valid_lifetime»)) refl refl

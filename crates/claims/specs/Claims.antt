@@ -16,7 +16,8 @@ use Rattle.claims.specs.Examples.{Examples}
 use Rattle.claims.specs.Application.{NeverGoes}
 use Rattle.claims.specs.Arrives.{Arrives}
 use Rattle.claims.specs.RoutesArrive.{RoutesArrive}
-use Rattle.claims.specs.Stranded.{Stranded}
+use Rattle.claims.specs.Cleared.{Cleared}
+use Rattle.claims.specs.Housed.{Housed}
 use Rattle.claims.specs.Lasting.{Lasting}
 use Rattle.claims.specs.Preferred.{NotDeprecated}
 use Rattle.claims.specs.Endless.{Endless}
@@ -81,8 +82,10 @@ pub record Claims : Type 1 where
   pub arrives : Arrives
   -- Likewise a router and its default route.
   pub routes-arrive : RoutesArrive
-  -- The full table: an address that found no room waits for the next sync, though there is room by then.
-  pub stranded : Stranded
+  -- Bits past a prefix length are not learned, and so no two prefixes of the table form one address.
+  pub cleared : Cleared
+  -- After a poll that is taken, a prefix that forms an address has it, or the address table is full.
+  pub housed : Housed
   -- What the application added stays, whatever is called: no sync and no turning off of SLAAC takes it.
   pub never-goes : NeverGoes
   -- No address stands twice in the tables that the calls make, and so the sync's entry of an address is document 01's SLAAC entry.
@@ -96,11 +99,11 @@ pub record Claims : Type 1 where
   pub refusals : Refusals
   -- No promise of a function that can be called has a second answer, nor leaves a second clock or buffer; but for what an operating system answers.
   pub determined : Determined
-  -- What is written or printed reads back as it was, and nothing beside it changes.
+  -- What is written or printed reads back as it was, a prefix without the bits past its length, and nothing beside it changes.
   pub round-trips : RoundTrips
   -- Values
   --
-  -- Document 01's worked examples.
+  -- Document 01's worked examples, the last as request 2026-02 has it.
   pub examples : Examples
   -- And its numbers and bits, each in a computed value.
   pub pinned : Pinned

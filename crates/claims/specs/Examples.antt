@@ -1,4 +1,4 @@
--- Document 01, "Examples on both sides": one claim, a field for each, of the specifications that the code is proved against. Assumes nothing.
+-- Document 01, "Examples on both sides", the last as request 2026-02 has it: one claim, a field for each, of the specifications that the code is proved against. Assumes nothing.
 use Prim.Native.Nat.{ℕ}
 use mathlib.Core.Path.{_≡_}
 use mathlib.Core.Bool.{true}
@@ -44,7 +44,7 @@ mac = record { hi = 0x0200; lo = 0x0000_0001 }
 abbrev pub router : Ipv6Addr
 router = record { hi = 0xfe80_0000_0000_0000; lo = 1 }
 
--- 20010db8000000010000000000000000 64, and another prefix of the same first 64 bits
+-- 20010db8000000010000000000000000 64, and the same prefix with a bit past its length
 abbrev pub network : Ipv6Cidr
 network = record { address = record { hi = 0x2001_0db8_0000_0001; lo = 0 }; «prefix_len» = 64 }
 
@@ -116,7 +116,7 @@ ra = hears (up .slaac) (header ++ prefixBytes (offer network 3600 1800)) 500
 abbrev pub end : Polled
 end = polls (ra .slaac) (up .addrs) (up .routes) 500
 
--- the last example: one advertisement with both prefixes, one with the second at 0, and the sync
+-- the last example: one advertisement with the prefix without that bit and with it, one with the second at 0, and the sync
 abbrev pub withBoth : Slaac
 withBoth = answerTo (prefixBytes (offer network 3600 1800) ++ prefixBytes (offer network1 3600 1800)) .slaac
 
@@ -180,7 +180,9 @@ pub record Examples : Type 0 where
       ∷ swept 0 (Retransmit (neighbour 1 .addr) ∷ [])
       ∷ swept 0 (Failed (neighbour 1 .addr) ∷ [])
       ∷ []
-  -- "2001:db8:0:1::/64, then 2001:db8:0:1::1/64, then the second with 0: the sync leaves no address though the first entry stays."
+  -- "2001:db8:0:1::/64, then 2001:db8:0:1::1/64, then the second with 0", by request 2026-02 "one entry, expired, and no address"
   pub formed-first : addrsOf (firstSync .addrs) ≡ slaacAddr formed (Until (At (ms 1800000))) ∷ []
+  pub one-entry : prefixesOf (firstSync .slaac) ≡ entry network 1800000 3600000 ∷ []
+  pub expired : prefixesOf secondEnds ≡ entry network 20 20 ∷ []
   pub no-address : addrsOf (lastSync .addrs) ≡ []
-  pub entry-stays : prefixesOf (lastSync .slaac) ≡ entry network 1800000 3600000 ∷ []
+  pub entry-gone : prefixesOf (lastSync .slaac) ≡ []

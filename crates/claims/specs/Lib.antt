@@ -17,8 +17,9 @@ pub mod Application
 pub mod Examples
 pub mod Pinned
 pub mod Arrives
+pub mod Cleared
 pub mod SameSource
-pub mod Stranded
+pub mod Housed
 pub mod RoutesArrive
 pub mod Lasting
 pub mod Preferred

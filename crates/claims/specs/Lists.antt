@@ -16,3 +16,8 @@ Some P (x ∷ xs) = P x ⊎ Some P xs
 -- x is an entry
 abbrev pub Member : {A : Type 0} → A → List A → Type 0
 Member x xs = Some (λ y. y ≡ x) xs
+
+-- no two entries are so to each other
+abbrev pub Apart : {A : Type 0} → (A → A → Type 0) → List A → Type 0
+Apart R [] = Unit {0}
+Apart R (x ∷ xs) = All (λ y. R x y → ⊥) xs × Apart R xs

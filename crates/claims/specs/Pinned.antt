@@ -1,10 +1,10 @@
--- The numbers and bits of document 01 up to the event program, computed: a definition with another number, bit or case in it fails here or in
+-- The numbers and bits of document 01 up to the event program, and of request 2026-02, computed: a definition with another number, bit or case in it fails here or in
 -- `Examples`, `Traces`, `Lasting`, `Endless`, `Wake`, which compute values too. Assumes nothing.
 use Prim.Native.Nat.{ℕ, zero, suc, _+_, _-_, _*_, _^_}
 use mathlib.Core.Path.{_≡_}
 use mathlib.Core.Bool.{Bool, true, false}
 use mathlib.Core.List.{List, [], _∷_, _++_, map}
-use lib.ListN.{replicate, take, length}
+use lib.ListN.{replicate, take, drop, length}
 use Rattle.time.specs.declared.Clock.{Clock}
 use Rattle.time.specs.declared.Deadline.the-variants.{None, At}
 use Rattle.time.specs.declared.Expiry.the-variants.{At as EndsAt, Forever}
@@ -15,12 +15,12 @@ use Rattle.wire.specs.declared.ipv6.Ipv6Cidr.{Ipv6Cidr}
 use Rattle.wire.specs.declared.ethernet.HardwareAddress.{HardwareAddress}
 use Rattle.wire.specs.declared.error.Refusal.the-variants.{Malformed, NotUnicast, TooLate, NoRoom, NotAdvertisement, NotLinkLocal, NoSuchIface, Full, Duplicate, PrefixTooLong}
 use Rattle.wire.specs.Refusals.{checkNumber, timeCheck, keyCheck, fillCheck, rowOf}
-use Rattle.wire.specs.Rfc4291.{isLinkLocal, isMulticast, isUnicast, addressAt, allRouters, isAllRouters}
+use Rattle.wire.specs.Rfc4291.{isLinkLocal, isMulticast, isUnicast, addressAt, allRouters, isAllRouters, maskOf}
 use Rattle.wire.specs.Rfc2464.{isUnicastHardware, euiBytes}
 use Rattle.ndisc.specs.declared.ndiscoption.Checked.the-variants.{Well}
 use Rattle.ndisc.specs.declared.ndiscoption.NdiscOption.the-variants.{SourceLinkLayerAddr, TargetLinkLayerAddr, PrefixInformation as Prefix, RedirectedHeader, Mtu, Unknown}
 use Rattle.ndisc.specs.OptionCalls.{linkLayerBytes, prefixBytes, mtuBytes}
-use Rattle.ndisc.specs.Rfc4861Options.{checkedOf, dataOf}
+use Rattle.ndisc.specs.Rfc4861Options.{checkedOf, dataOf, prefixAt}
 use Rattle.ndisc.specs.Rfc4443Checksum.{words}
 use Rattle.ndisc.specs.Rfc4861Messages.{isRouterSolicit}
 use Rattle.neighbor.specs.declared.Answer.the-variants.{Found as Known, Pending, NotFound}
@@ -112,9 +112,19 @@ net n = record { address = record { hi = 0x2001_0db8_0000_0000 + n; lo = 0 }; «
 abbrev pub offers : ℕ → List ℕ
 offers n = prefixBytes (offer (net n) 5 5)
 
--- an offer of a prefix that begins so
-abbrev pub offersAt : ℕ → List Learned
-offersAt n = prefixesOf (answerTo (prefixBytes (offer (record { address = beginning n; «prefix_len» = 64 }) 5 5)) .slaac)
+-- the prefix that begins so, of any length: with a bit at its end, and without
+abbrev pub untidy : ℕ → ℕ → Ipv6Cidr
+untidy n len = record { address = beginning n; «prefix_len» = len }
+
+abbrev pub tidy : ℕ → ℕ → Ipv6Cidr
+tidy n len = record { address = halves (n * 2 ^ 48) 0; «prefix_len» = len }
+
+-- an address of all ones, and its bytes read as a prefix of any length
+abbrev pub ones : Ipv6Addr
+ones = halves 0xffff_ffff_ffff_ffff 0xffff_ffff_ffff_ffff
+
+abbrev pub readOf : ℕ → Ipv6Addr
+readOf len = prefixAt (prefixBytes (offer (record { address = ones; «prefix_len» = len }) 5 5)) .prefix
 
 -- the n-th of some routers advertises 258 seconds
 abbrev pub routerNo : ℕ → Ipv6Addr
@@ -324,8 +334,30 @@ pub record Pinned : Type 0 where
   -- and what comes after does not take it back
   pub asks-still : asksAgain (offers 2 ++ prefixBytes (offer (net 3) 0 0)) ≡ true
   -- "Entries match on all 16 bytes and the length."
-  pub by-length : prefixesOf (answerTo (prefixBytes (offer network 5 5) ++ prefixBytes (offer (ofLength 63) 5 5)) .slaac)
-      ≡ entry network 5000 5000 ∷ entry (ofLength 63) 5000 5000 ∷ []
+  pub by-length : prefixesOf (answerTo (prefixBytes (offer network 5 5) ++ prefixBytes (offer (ofLength 65) 5 5)) .slaac)
+      ≡ entry network 5000 5000 ∷ entry (ofLength 65) 5000 5000 ∷ []
+  pub by-last-bit : prefixesOf (answerTo (prefixBytes (offer (tidy 0x2001 128) 5 5) ++ prefixBytes (offer (untidy 0x2001 128) 5 5)) .slaac)
+      ≡ entry (tidy 0x2001 128) 5000 5000 ∷ entry (untidy 0x2001 128) 5000 5000 ∷ []
+  -- RFC 4861, 4.6.2: the bits after the prefix length are "ignored by the receiver"; "above that the bytes come as they are"
+  pub in-first-half : map (λ n. maskOf n ones) (0 ∷ 1 ∷ 9 ∷ 63 ∷ 64 ∷ [])
+      ≡ halves 0 0 ∷ halves 0x8000_0000_0000_0000 0 ∷ halves 0xff80_0000_0000_0000 0 ∷ halves 0xffff_ffff_ffff_fffe 0 ∷ halves 0xffff_ffff_ffff_ffff 0 ∷ []
+  pub in-second-half : map (λ n. maskOf n ones) (65 ∷ 100 ∷ 127 ∷ [])
+      ≡ halves 0xffff_ffff_ffff_ffff 0x8000_0000_0000_0000
+      ∷ halves 0xffff_ffff_ffff_ffff 0xffff_ffff_f000_0000
+      ∷ halves 0xffff_ffff_ffff_ffff 0xffff_ffff_ffff_fffe
+      ∷ []
+  pub whole-address : map (λ n. maskOf n ones) (128 ∷ 129 ∷ 255 ∷ []) ≡ ones ∷ ones ∷ ones ∷ []
+  pub read-so : map readOf (0 ∷ 9 ∷ 64 ∷ 100 ∷ 128 ∷ []) ≡ map (λ n. maskOf n ones) (0 ∷ 9 ∷ 64 ∷ 100 ∷ 128 ∷ [])
+  pub read-as-it-came : map readOf (129 ∷ 255 ∷ []) ≡ ones ∷ ones ∷ []
+  -- "Prefix entries then match on the cleared value", the tests for link-local and multicast see it, and what is written is what was given
+  pub same-entry : prefixesOf (answerTo (prefixBytes (offer (tidy 0x2001 64) 5 5) ++ prefixBytes (offer (untidy 0x2001 64) 9 9)) .slaac)
+      ≡ entry (tidy 0x2001 64) 9000 9000 ∷ []
+  pub below-link-local : learns (offer (untidy 0xfe80 8) 5 5) ≡ entry (tidy 0xfe00 8) 5000 5000 ∷ []
+  pub below-multicast : learns (offer (untidy 0xff02 7) 5 5) ≡ entry (tidy 0xfe00 7) 5000 5000 ∷ []
+  pub onto-link-local : learns (offer (untidy 0xfec0 9) 5 5) ≡ []
+  pub no-length : learns (offer (untidy 0xff02 0) 5 5) ≡ entry (tidy 0 0) 5000 5000 ∷ []
+  pub formless : map forms (offer (untidy 0xfe80 8) 5 5 ∷ offer (untidy 0xff02 7) 5 5 ∷ offer (untidy 0x2001 0) 5 5 ∷ []) ≡ [] ∷ [] ∷ [] ∷ []
+  pub written-as-given : take 1 (drop 31 (prefixBytes (offer (untidy 0x2001 64) 5 5))) ≡ 1 ∷ []
   -- all ones are forever, and one less is not
   pub almost-endless : learns (offer network 0xffff_ffff 0xffff_fffe)
       ≡ record { cidr = network; «preferred_until» = EndsAt (ms 4294967294000); «valid_until» = Forever } ∷ []
@@ -339,8 +371,8 @@ pub record Pinned : Type 0 where
   -- "One is skipped if prefix length > 128, autonomous is clear, the prefix is link-local or multicast, or preferred > valid."
   pub on-link-alone : optioned 0x80 ≡ []
   pub autonomous : optioned 0x40 ≡ entry network 5000 9000 ∷ []
-  pub link-local-prefix : offersAt 0xfe80 ≡ []
-  pub multicast-prefix : offersAt 0xff02 ≡ []
+  pub link-local-prefix : learns (offer (untidy 0xfe80 64) 5 5) ≡ []
+  pub multicast-prefix : learns (offer (untidy 0xff02 64) 5 5) ≡ []
   -- "prefixes 4": "a full table ignores it"
   pub five : prefixesOf (answerTo (offers 1 ++ offers 2 ++ offers 3 ++ offers 4 ++ offers 5) .slaac)
       ≡ entry (net 1) 5000 5000 ∷ entry (net 2) 5000 5000 ∷ entry (net 3) 5000 5000 ∷ entry (net 4) 5000 5000 ∷ []

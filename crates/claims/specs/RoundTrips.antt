@@ -10,7 +10,7 @@ use Rattle.wire.specs.Rfc4291.{addressBytes, allRouters}
 use Rattle.wire.specs.declared.ethernet.HardwareAddress.{HardwareAddress}
 use Rattle.wire.specs.declared.ipv6.Ipv6Addr.{Ipv6Addr}
 use Rattle.ndisc.specs.OptionCalls.{linkLayerBytes, prefixBytes, mtuBytes, Wrote}
-use Rattle.ndisc.specs.Rfc4861Options.{checkedOf}
+use Rattle.ndisc.specs.Rfc4861Options.{checkedOf, masked}
 use Rattle.ndisc.specs.Rfc4861Messages.{Solicits}
 use Rattle.ndisc.specs.Rfc4443Checksum.{accepted}
 use Rattle.ndisc.specs.declared.ndisc.Solicited.the-variants.{Written as Sent}
@@ -42,11 +42,15 @@ pub record RoundTrips : Type 0 where
   pub addresses : Addresses
   -- an address that a prefix forms is formed from that hardware address, and from no other
   pub formed : FormedBack
-  -- "A read of it returns the values written."
+  -- "A read of it returns the values written."; request 2026-02: "A written prefix is read back with those bits cleared", the
+  -- bits past its length, of which a length byte above 128 has none
   pub source : (a : HardwareAddress) → ReadBack (linkLayerBytes 1 a) (SourceLinkLayerAddr a) 1
   pub target : (a : HardwareAddress) → ReadBack (linkLayerBytes 2 a) (TargetLinkLayerAddr a) 1
-  pub prefix : (p : PrefixInformation) → ReadBack (prefixBytes p) (Prefix p) 4
+  pub prefix : (p : PrefixInformation) → ReadBack (prefixBytes p) (Prefix (masked p)) 4
   pub mtu : (n : ℕ) → ReadBack (mtuBytes n) (Mtu n) 1
+  -- the bits past its length are written as they are given: bytes 16 to 31 are the prefix's
+  pub prefix-as-given : (p : PrefixInformation) (msg : List ℕ) (at : ℕ) (msg' : List ℕ) → Wrote msg at (prefixBytes p) Done msg'
+      → take 16 (drop 16 (drop at msg')) ≡ addressBytes (p .prefix)
   -- "no byte outside it changes", whatever a writer answers
   pub before : (msg : List ℕ) (at : ℕ) (bs : List ℕ) (r : Written) (msg' : List ℕ) → Wrote msg at bs r msg' → take at msg' ≡ take at msg
   pub after : (msg : List ℕ) (at : ℕ) (bs : List ℕ) (r : Written) (msg' : List ℕ) → Wrote msg at bs r msg'

@@ -184,17 +184,20 @@ fn address_at(s: &[u8], i: usize) -> Ipv6Addr
     }
 }
 
+// RFC 4861, 4.6.2: a receiver ignores the bits past the prefix length.
 fn prefix_information(s: &[u8]) -> PrefixInformation
     requires { ⌜ 32 ≤ length (now s) ⌝ }
     ensures { λ r. ⌜ r ≡ prefixAt (now (s .entry)) ⌝ }
 {
+    let prefix_len = s[field::PREFIX_LEN];
+    let prefix = address_at(s, field::PREFIX);
     PrefixInformation {
-        prefix_len: s[field::PREFIX_LEN],
+        prefix_len,
         on_link: bit(ON_LINK, s[field::FLAGS]),
         addrconf: bit(ADDRCONF, s[field::FLAGS]),
         valid_lifetime: u32_at(s, field::VALID_LT),
         preferred_lifetime: u32_at(s, field::PREF_LT),
-        prefix: address_at(s, field::PREFIX),
+        prefix: prefix.mask(prefix_len),
     }
 }
 

@@ -70,6 +70,8 @@ const FORMED: usize = 14;
 
 const SAME: usize = 15;
 
+const MASK: usize = 16;
+
 fn add(args: Args, out: &mut [u8], at: usize) -> usize {
     let from = Instant(args.time);
     let sum = from.add(Duration(args.number));
@@ -118,6 +120,12 @@ fn same(args: Args, out: &mut [u8], at: usize) -> usize {
     let hardware_addr = args.hardware_addr;
     let other = args.other_hardware;
     yes_or_no(out, at, hardware_addr.same(other))
+}
+
+fn mask(args: Args, out: &mut [u8], at: usize) -> usize {
+    let addr = args.addr;
+    let masked = addr.mask(args.prefix_len);
+    address_after(out, at, b"masked ", masked)
 }
 
 fn flags(on_link: bool, addrconf: bool) -> u8 {
@@ -279,6 +287,7 @@ fn address_call(args: Args, out: &mut [u8], at: usize) -> usize {
         FORM => form(args, out, at),
         FORMED => formed(args, out, at),
         SAME => same(args, out, at),
+        MASK => mask(args, out, at),
         _ => add(args, out, at),
     }
 }
@@ -311,7 +320,7 @@ fn call(args: Args, message: &mut [u8], out: &mut [u8], at: usize) -> usize {
 pub fn values_line(line: &[u8], room: &mut [u8], out: &mut [u8], at: usize) -> usize {
     let args = read_call(
         line,
-        b"option x;write xn1m;write xn2m;write xn3lfvpa;write xn5h;solicit xam;advert x;options xn;next xn;checksum azx;solicitation xa;kind a;hardware m;form alm;formed am;same mk;add tn;",
+        b"option x;write xn1m;write xn2m;write xn3lfvpa;write xn5h;solicit xam;advert x;options xn;next xn;checksum azx;solicitation xa;kind a;hardware m;form alm;formed am;same mk;mask al;add tn;",
         room,
     );
     if !args.ok {

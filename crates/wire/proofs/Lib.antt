@@ -1,4 +1,5 @@
 pub mod Bytes
 pub mod Formed
+pub mod Masks
 pub mod RoundTrip
 pub mod Tests

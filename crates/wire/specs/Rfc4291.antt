@@ -1,8 +1,8 @@
--- RFC 4291, IP version 6 addressing: the kinds of address that document 01 names. Assumes nothing.
-use Prim.Native.Nat.{ℕ, _+_, _/_, _^_}
-use mathlib.Core.Bool.{Bool, true, false, _&&_, not}
+-- RFC 4291, IP version 6 addressing: the kinds of address that document 01 names, and prefix lengths. Assumes nothing.
+use Prim.Native.Nat.{ℕ, _+_, _-_, _*_, _/_, _^_}
+use mathlib.Core.Bool.{Bool, true, false, cond, _&&_, not}
 use mathlib.Core.List.{List, [], _∷_, _++_}
-use lib.Dec.{eqb}
+use lib.Dec.{eqb, leb}
 use Rattle.wire.specs.Numbers.{u64At, bytes64}
 use Rattle.wire.specs.declared.ipv6.Ipv6Addr.{Ipv6Addr}
 use Rattle.wire.specs.declared.ipv6.Ipv6Cidr.{Ipv6Cidr}
@@ -36,6 +36,15 @@ sameAddr a b = eqb (a .hi) (b .hi) && eqb (a .lo) (b .lo)
 -- "Entries match on all 16 bytes and the length."
 abbrev pub sameCidr : Ipv6Cidr → Ipv6Cidr → Bool
 sameCidr a b = sameAddr (a .address) (b .address) && eqb (a .«prefix_len») (b .«prefix_len»)
+
+-- a half, of 64 bits, with its last k bits cleared
+abbrev pub clearLow : ℕ → ℕ → ℕ
+clearLow k half = cond (leb 64 k) 0 (half / 2 ^ k * 2 ^ k)
+
+-- 2.3: a prefix length is "a decimal value specifying how many of the leftmost contiguous bits of the address comprise the prefix": of 128 bits those
+-- past the length are cleared. A half of which no bit is past it stays, and so does an address with a length above 128.
+abbrev pub maskOf : ℕ → Ipv6Addr → Ipv6Addr
+maskOf n a = record { hi = clearLow (64 - n) (a .hi); lo = clearLow (128 - n) (a .lo) }
 
 -- byte by byte
 abbrev pub sameBytes : List ℕ → List ℕ → Bool

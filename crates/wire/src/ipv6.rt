@@ -1,6 +1,7 @@
 // IPv6 addresses and prefixes (RFC 4291): two halves of 64 bits in tables, sixteen bytes at the border.
 ghost use mathlib.Core.Path.{_≡_};
-ghost use Rattle.wire.specs.Rfc4291.{addressAt, addressBytes, isAllRouters, isMulticast, isLinkLocal, isUnspecified, isUnicast, sameAddr, sameCidr, sameBytes};
+ghost use Prim.Native.Nat.{_-_};
+ghost use Rattle.wire.specs.Rfc4291.{addressAt, addressBytes, isAllRouters, isMulticast, isLinkLocal, isUnspecified, isUnicast, sameAddr, sameCidr, sameBytes, clearLow, maskOf};
 ghost use Rattle.wire.specs.Rfc2464.{isFormedFrom, Forms};
 use crate::byteorder;
 use crate::ethernet::HardwareAddress;
@@ -23,6 +24,11 @@ pub enum Formed {
 
 // The length of a prefix that forms an address.
 const FORMING_LEN: u8 = 64;
+
+// The bits of an address, and of a half.
+const ADDR_BITS: u8 = 128;
+
+const HALF_BITS: u8 = 64;
 
 // ff02::2
 pub const LINK_LOCAL_ALL_ROUTERS: [u8; 16] = [0xff, 0x02, 0, 0, 0, 0, 0, 0, 0, 0, 0, 0, 0, 0, 0, 2];
@@ -94,6 +100,16 @@ impl Ipv6Addr {
         ensures { λ r. ⌜ r ≡ isLinkLocal self ⌝ }
     {
         self.hi / 0x40_0000_0000_0000 == 0x3fa
+    }
+
+    // The bits past the prefix length cleared; above 128 there are none.
+    pub fn mask(self, prefix_len: u8) -> Ipv6Addr
+        ensures { λ r. ⌜ r ≡ maskOf «prefix_len» self ⌝ }
+    {
+        Ipv6Addr {
+            hi: clear_low(self.hi, bits_past(HALF_BITS, prefix_len)),
+            lo: clear_low(self.lo, bits_past(ADDR_BITS, prefix_len)),
+        }
     }
 
     // ::
@@ -169,6 +185,27 @@ impl Ipv6Cidr {
             prefix_len: FORMING_LEN,
         })
     }
+}
+
+// How many of the first `bits` bits are past the prefix length; 0 if none is.
+fn bits_past(bits: u8, prefix_len: u8) -> u8
+    ensures { λ r. ⌜ r ≡ bits - «prefix_len» ⌝ }
+{
+    if bits < prefix_len {
+        0
+    } else {
+        bits - prefix_len
+    }
+}
+
+// A half with its last `count` bits cleared. A shift takes fewer than 64.
+fn clear_low(half: u64, count: u8) -> u64
+    ensures { λ r. ⌜ r ≡ clearLow count half ⌝ }
+{
+    if HALF_BITS <= count {
+        return 0;
+    }
+    half >> count << count
 }
 
 // The same bytes, one by one.
