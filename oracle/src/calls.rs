@@ -166,6 +166,8 @@ pub trait Side {
     fn hardware(&mut self, mac: Mac) -> (bool, [u8; 8]);
     /// The address that a prefix and a hardware address form.
     fn form(&mut self, prefix: Addr, len: u8, mac: Mac) -> Option<Addr>;
+    /// The address with its bits past a length cleared.
+    fn mask(&mut self, addr: Addr, len: u8) -> Addr;
     fn is_formed(&mut self, addr: Addr, mac: Mac) -> bool;
 
     fn header(&mut self, message: &[u8]) -> Result<Header, Refused>;
@@ -504,6 +506,11 @@ fn call(side: &mut dyn Side, line: &[u8]) -> Result<Result<String, Refused>, Bad
             let (prefix, len, mac) = (f.addr()?, f.small()?, f.mac()?);
             f.end()?;
             Ok(side.form(prefix, len, mac).map_or("nothing".into(), |addr| format!("formed {}", hex(&addr))))
+        }
+        "mask" => {
+            let (addr, len) = (f.addr()?, f.small()?);
+            f.end()?;
+            Ok(format!("masked {}", hex(&side.mask(addr, len))))
         }
         "formed" => {
             let (addr, mac) = (f.addr()?, f.mac()?);

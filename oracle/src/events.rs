@@ -21,6 +21,8 @@ pub struct Outcome {
     pub output: String,
     /// The rule of the range that the file leaves first, and on which line, if it does.
     pub outside: Option<String>,
+    /// Whether it leaves one other than that of the bits past a prefix length.
+    pub outside_by_another: bool,
 }
 
 /// A line that ends the output.
@@ -119,6 +121,7 @@ pub fn run(input: &[u8]) -> Outcome {
     Outcome {
         output: host.out,
         outside: host.outside,
+        outside_by_another: host.range.by_another,
     }
 }
 

@@ -37,6 +37,23 @@ impl Rng {
     }
 }
 
+/// How far the files go.
+#[derive(Clone, Copy, PartialEq, Eq)]
+pub enum Reach {
+    /// Where the Rust can be compared.
+    Inside,
+    /// There, but for bits past a prefix length. What is recorded has some.
+    Bits,
+    /// Also long lifetimes, times far apart, all of fe80::/10, and bits past a prefix length in every other option.
+    Wide,
+}
+
+impl Reach {
+    pub fn of(wide: bool) -> Reach {
+        if wide { Reach::Wide } else { Reach::Inside }
+    }
+}
+
 /// Which events a file is made of: (weight, event).
 #[derive(Clone, Copy)]
 enum Kind {
@@ -111,7 +128,7 @@ impl File {
 
 struct Maker {
     rng: Rng,
-    /// Also what the Rust can not be compared on: long lifetimes, times far apart, all of fe80::/10.
+    reach: Reach,
     wide: bool,
     model: Model,
     file: File,
@@ -125,6 +142,8 @@ struct Maker {
     macs: Vec<Mac>,
     /// Of the routers, prefixes and neighbours only the first few are used.
     few: u64,
+    /// The prefix lengths that are used; any, if there are none.
+    lens: &'static [u8],
     /// How often an advertisement is malformed: one in this.
     malformed: u64,
     /// How many bytes the events print.
@@ -133,12 +152,15 @@ struct Maker {
 
 const LINK_LOCAL: Addr = 0xfe80 << 112;
 
+/// Prefix lengths at borders: of an address, its halves, its bytes, and of fe80::/10.
+const LENGTHS: &[u8] = &[0, 1, 7, 8, 9, 10, 63, 64, 65, 100, 127, 128, 129, 255];
+
 /// The longest line, without its newline.
 const LINE: usize = crate::events::LINE;
 
-/// The `number`th file of a seed. With `wide` it may leave the range in which the Rust can be compared.
-pub fn file(seed: u64, number: u64, wide: bool) -> Vec<u8> {
-    let mut maker = Maker::new(Rng::new(seed, number), wide);
+/// The `number`th file of a seed.
+pub fn file(seed: u64, number: u64, reach: Reach) -> Vec<u8> {
+    let mut maker = Maker::new(Rng::new(seed, number), reach);
     let style = maker.rng.below(16);
     match style {
         0..=4 => maker.mingle(ADVERTISED, 40),
@@ -168,7 +190,7 @@ pub fn file(seed: u64, number: u64, wide: bool) -> Vec<u8> {
 /// such a block, and keeps what it has of the last line in front of the next, meets its borders between the two digits of a byte of a
 /// longest line, behind a newline and in front of one: leading zeros of times put them there.
 pub fn long_input(seed: u64, block: usize) -> Vec<u8> {
-    let mut maker = Maker::new(Rng::new(seed, 0), false);
+    let mut maker = Maker::new(Rng::new(seed, 0), Reach::Inside);
     maker.few = 6;
     let mut lines = Lines::new(&maker.file);
     let mut end = block;
@@ -203,7 +225,7 @@ pub fn long_input(seed: u64, block: usize) -> Vec<u8> {
 
 /// A file that prints more than so many bytes: tables of resolutions that run out together, with solicitations and refusals between them.
 pub fn long_output(seed: u64, bytes: usize) -> Vec<u8> {
-    let mut maker = Maker::new(Rng::new(seed, 0), false);
+    let mut maker = Maker::new(Rng::new(seed, 0), Reach::Inside);
     maker.few = 30;
     maker.malformed = 3;
     let mut off = false;
@@ -295,7 +317,8 @@ pub fn carrying(rng: &mut Rng, mac: Mac) -> Addr {
 }
 
 impl Maker {
-    fn new(mut rng: Rng, wide: bool) -> Maker {
+    fn new(mut rng: Rng, reach: Reach) -> Maker {
+        let wide = reach == Reach::Wide;
         let mut mac = match rng.below(4) {
             0 => 0x0200_0000_0001,
             1 => 0x0000_5e00_5301,
@@ -355,6 +378,7 @@ impl Maker {
 
         let mut maker = Maker {
             rng,
+            reach,
             wide,
             model: Model::new(mac),
             file: File {
@@ -370,6 +394,7 @@ impl Maker {
             neighbours,
             macs,
             few,
+            lens: &[],
             malformed,
             printed: 0,
         };
@@ -553,12 +578,17 @@ impl Maker {
             }
         }
         let len = match self.rng.below(20) {
+            _ if !self.lens.is_empty() => self.rng.of(self.lens),
             0 => 128,
             1 => 129,
             2 => self.rng.of(&[0, 1, 48, 63, 65, 127, 255]),
             3 => self.rng.below(256) as u8,
+            4..=7 if self.wide => self.rng.of(LENGTHS),
             _ => 64,
         };
+        if self.wide && len < 10 && self.rng.one_in(2) {
+            prefix = self.rng.of(&[LINK_LOCAL, 0xff02 << 112, 0xfec0 << 112, 0xfe00 << 112]);
+        }
         let flags = match self.rng.below(12) {
             0 => 0x80,
             1 => 0x40,
@@ -587,8 +617,24 @@ impl Maker {
         if self.rng.one_in(5) {
             option[12..16].copy_from_slice(&(self.rng.next() as u32).to_be_bytes());
         }
+        let prefix = match self.reach {
+            Reach::Inside if flags & 0x40 != 0 => model::cleared(prefix, len),
+            Reach::Wide if self.rng.one_in(2) => self.with_bits(prefix, len),
+            _ => prefix,
+        };
         option[16..32].copy_from_slice(&prefix.to_be_bytes());
         option
+    }
+
+    /// The prefix with other bits past its length: any of them, the first, or the last.
+    fn with_bits(&mut self, prefix: Addr, len: u8) -> Addr {
+        let kept = model::cleared(prefix, len);
+        let bits = match self.rng.below(4) {
+            0 => 1,
+            1 if len < 128 => 1 << (127 - len),
+            _ => u128::from(self.rng.next()) << 64 | u128::from(self.rng.next()),
+        };
+        kept | bits & !model::cleared(u128::MAX, len)
     }
 
     /// Any option that is well formed.
@@ -883,11 +929,17 @@ impl Maker {
         }
     }
 
-    /// Prefixes of one address, in both orders, with short lifetimes.
+    /// Prefixes of one upper half, in both orders, with short lifetimes. Their lengths are above 64, where they are entries of their own,
+    /// or 64 as well, where they are one.
     fn twins(&mut self) {
         self.put(self.base, Event::Up);
         let site: Addr = 0x2001_0db8 << 96;
         self.prefixes = vec![site | 1 << 64, site | 1 << 64 | 1, site | 2 << 64, site | 1 << 64 | 2];
+        match self.reach {
+            Reach::Inside => self.lens = &[64, 127, 128, 128],
+            Reach::Bits => {}
+            Reach::Wide => self.lens = &[64, 64, 64, 64, 63, 65, 127, 128],
+        }
         self.few = 2 + self.rng.below(3);
         for _ in 0..2 + self.rng.below(20) {
             if self.rng.one_in(2) {
@@ -1108,10 +1160,9 @@ const STYLES: &[Style] = &[
     Style::Mixed,
 ];
 
-/// The `number`th sequence of calls of a seed, a line each; some do not read. With `wide` it may leave the range in which the Rust can be
-/// compared.
-pub fn calls(seed: u64, number: u64, wide: bool) -> Vec<String> {
-    let mut maker = Maker::new(Rng::new(seed ^ 0x6361_6c6c, number), wide);
+/// The `number`th sequence of calls of a seed, a line each; some do not read.
+pub fn calls(seed: u64, number: u64, reach: Reach) -> Vec<String> {
+    let mut maker = Maker::new(Rng::new(seed ^ 0x6361_6c6c, number), reach);
     let mut side = crate::calls::Modelled::default();
     let mut lines = Vec::new();
     let mut put = |side: &mut crate::calls::Modelled, line: String| {
@@ -1333,6 +1384,17 @@ impl Maker {
                 let mac = self.hardware();
                 format!("hardware {mac:012x}")
             }
+            // What is recorded by chance has none.
+            4..=5 if self.reach != Reach::Bits && self.rng.one_in(2) => {
+                let len = if self.rng.one_in(2) { self.rng.of(LENGTHS) } else { self.rng.below(256) as u8 };
+                let len = if self.wide { len } else { len.min(128) };
+                let addr = match self.rng.below(4) {
+                    0 => u128::MAX,
+                    1 => model::cleared(self.any_address(), len),
+                    _ => self.any_address() ^ u128::from(self.rng.next()) << self.rng.below(65),
+                };
+                format!("mask {addr:032x} {len}")
+            }
             4..=5 => {
                 let prefix = self.rng.of(&self.prefixes) | u128::from(self.rng.next() >> self.rng.below(64));
                 let len = self.rng.of(&[64, 64, 64, 63, 65, 0, 128, 129, 255, 48]);
@@ -1375,6 +1437,7 @@ impl Maker {
                 if self.rng.one_in(10) {
                     places = vec![self.rng.below(40) as usize, 0];
                 }
+                self.clear_prefixes(&mut message, 16);
                 let word = self.rng.of(&["options", "next", "next"]);
                 format!("{word} {} {}", hex(&message), self.rng.of(&places))
             }
@@ -1526,6 +1589,7 @@ impl Maker {
             }
             o
         };
+        self.clear_prefixes(&mut bytes, 0);
         match self.rng.below(6) {
             0 => {
                 bytes.pop();
@@ -1535,6 +1599,22 @@ impl Maker {
             _ => {}
         }
         format!("option {}", hex(&bytes))
+    }
+
+    /// Inside the range no prefix option that a single call reads has bits past its length.
+    fn clear_prefixes(&self, message: &mut [u8], from: usize) {
+        if self.reach != Reach::Inside {
+            return;
+        }
+        let mut at = from;
+        while let Some((kind, option)) = message.get(at..).and_then(model::option_at) {
+            let end = at + option.len();
+            if kind == 3 {
+                let prefix = model::prefix_of(option);
+                message[at + 16..at + 32].copy_from_slice(&prefix.to_be_bytes());
+            }
+            at = end;
+        }
     }
 
     fn cache_call(&mut self, iface: u64) -> String {

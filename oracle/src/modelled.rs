@@ -49,7 +49,7 @@ fn held(kind: u8, o: &[u8]) -> Held {
     let n = |from: usize, to: usize| o[from..to].iter().fold(0u128, |n, b| n << 8 | u128::from(*b));
     match kind {
         1 | 2 => Held::LinkLayer(kind, small_mac(n(2, 8) as u64)),
-        3 => Held::Prefix(o[2], o[3] & 0xc0, n(4, 8) as u64 * 1000, n(8, 12) as u64 * 1000, n(16, 32).to_be_bytes()),
+        3 => Held::Prefix(o[2], o[3] & 0xc0, n(4, 8) as u64 * 1000, n(8, 12) as u64 * 1000, model::prefix_of(o).to_be_bytes()),
         5 => Held::Mtu(n(4, 8) as u32),
         _ => Held::Other(kind),
     }
@@ -106,6 +106,10 @@ impl Side for Modelled {
 
     fn form(&mut self, prefix: Addr, len: u8, mac: Mac) -> Option<Addr> {
         model::form(big(prefix), len, big_mac(mac)).map(|addr| addr.to_be_bytes())
+    }
+
+    fn mask(&mut self, addr: Addr, len: u8) -> Addr {
+        model::mask(big(addr), len).to_be_bytes()
     }
 
     fn is_formed(&mut self, addr: Addr, mac: Mac) -> bool {

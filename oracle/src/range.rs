@@ -9,6 +9,19 @@ pub const LONGEST: u64 = (1 << 30) / 1000;
 /// A lifetime of all ones, infinite by request 2026-01. The Rust has none.
 const FOREVER: u64 = u32::MAX as u64;
 
+/// The rule of request 2026-02. The Rust keeps what the port clears.
+pub const BITS: &str = "bits past a prefix length (2026-02)";
+
+/// Whether a prefix has a bit past its length. Above 128 there is none.
+pub fn has_bits(prefix: &[u8; 16], len: u8) -> bool {
+    let len = usize::from(len);
+    (0..16).any(|i| match len.saturating_sub(8 * i) {
+        0 => prefix[i] != 0,
+        kept @ 1..8 => prefix[i] << kept != 0,
+        _ => false,
+    })
+}
+
 /// Link-local as document 01 has it: fe80::/10.
 pub fn link_local(addr: &[u8; 16]) -> bool {
     addr[0] == 0xfe && addr[1] & 0xc0 == 0x80
@@ -26,6 +39,8 @@ pub struct Range {
     span: u64,
     /// The rule that was left first.
     pub outside: Option<String>,
+    /// Whether one was left other than `BITS`.
+    pub by_another: bool,
 }
 
 impl Range {
@@ -34,6 +49,7 @@ impl Range {
             first,
             span,
             outside: None,
+            by_another: false,
         }
     }
 
@@ -43,8 +59,15 @@ impl Range {
     }
 
     pub fn leaves(&mut self, rule: impl Into<String>) {
-        if self.outside.is_none() {
-            self.outside = Some(rule.into());
+        let rule = rule.into();
+        self.by_another |= rule != BITS;
+        self.outside.get_or_insert(rule);
+    }
+
+    /// A prefix that is read, with its length.
+    pub fn bits(&mut self, prefix: &[u8; 16], len: u8) {
+        if has_bits(prefix, len) {
+            self.leaves(BITS);
         }
     }
 
@@ -94,7 +117,10 @@ impl Range {
         let seconds = |i: usize| u64::from(u32::from_be_bytes(option[i..i + 4].try_into().unwrap()));
         let (valid, preferred) = (seconds(4), seconds(8));
         let prefix: &[u8; 16] = option[16..32].try_into().unwrap();
-        // One that both sides skip, whatever its lifetimes: up to the longest lifetime the order of the two is the same
+        if option[3] & 0x40 != 0 {
+            self.bits(prefix, option[2]);
+        }
+        // With no bit past its length the prefix is the same for both sides. One that both sides skip, whatever its lifetimes: up to the longest lifetime the order of the two is the same
         // for both.
         let skipped = option[2] > 128
             || option[3] & 0x40 == 0

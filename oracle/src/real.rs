@@ -55,6 +55,11 @@ impl Real {
         self.range.outside.as_deref()
     }
 
+    /// Whether they left one other than that of the bits past a prefix length.
+    pub fn outside_by_another(&self) -> bool {
+        self.range.by_another
+    }
+
     fn outer(&self, t: u32) -> u64 {
         self.range.outer(t)
     }
@@ -152,6 +157,15 @@ impl Side for Real {
         world::form(prefix, len, mac)
     }
 
+    /// The real `mask` ends at 128 bits.
+    fn mask(&mut self, addr: Addr, len: u8) -> Addr {
+        if len > 128 {
+            self.range.leaves("mask of more than 128 bits");
+            return addr;
+        }
+        world::mask(addr, len)
+    }
+
     /// The host's comparison with the real EUI-64; the Rust has none.
     fn is_formed(&mut self, addr: Addr, mac: Mac) -> bool {
         addr[8..] == world::eui_64(mac)
@@ -206,6 +220,7 @@ impl Side for Real {
                     let seconds = u32::from_be_bytes(bytes[at..at + 4].try_into().unwrap());
                     self.range.lifetime(seconds.into());
                 }
+                self.range.bits(&prefix, len);
                 Held::Prefix(len, flags, valid.into(), preferred.into(), prefix)
             }
             world::Opt::Mtu(mtu) => Held::Mtu(mtu),

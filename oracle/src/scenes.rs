@@ -25,6 +25,7 @@ mod answers;
 mod bad;
 mod deadlines;
 mod looked;
+mod masked;
 mod options;
 mod tables;
 mod turns;
@@ -171,6 +172,16 @@ pub const ANSWERS: &[(&str, &[&str])] = &[
     ("hardware", &["unicast 0 eui *fffe*", "unicast 1 eui 000000fffe000001", "bad line"]),
     ("form", &["formed *fffe*", "nothing", "bad line"]),
     ("formed", &["yes", "no", "bad line"]),
+    (
+        "mask",
+        &[
+            "masked 00000000000000000000000000000000",
+            "masked ffffffffffffffff0000000000000000",
+            "masked fffffffffffffffffffffffffffffffe",
+            "masked ffffffffffffffffffffffffffffffff",
+            "bad line",
+        ],
+    ),
     ("same", &["yes", "no", "bad line"]),
     (
         "advert",
@@ -451,6 +462,7 @@ pub fn all() -> Vec<Scene> {
         bad::bad_lines(),
         // Behind all others, which keep their numbers.
         looked::looked(),
+        masked::masked(),
     ];
     groups.into_iter().flatten().collect()
 }

@@ -86,6 +86,44 @@ pub fn form(prefix: Addr, len: u8, mac: Mac) -> Option<Addr> {
     Some(prefix >> 64 << 64 | u128::from(eui64(mac)))
 }
 
+/// RFC 4861 4.6.2, request 2026-02: a receiver ignores the bits past a prefix's length, so they are read as zero, one by one. A length above
+/// 128 has none behind it.
+pub fn cleared(addr: Addr, len: u8) -> Addr {
+    (len..128).fold(addr, |addr, bit| addr & !(1 << (127 - bit)))
+}
+
+/// An address is asked for without the bits past a length.
+pub fn mask(addr: Addr, len: u8) -> Addr {
+    match len {
+        0 => mark!("calls.mask-0"),
+        64 => mark!("calls.mask-64"),
+        128 => mark!("calls.mask-128"),
+        129.. => mark!("calls.wide-mask-above-128"),
+        _ if len % 8 == 0 => mark!("calls.mask-whole-bytes"),
+        _ => mark!("calls.mask-inside-a-byte"),
+    }
+    match len {
+        63 | 65 => mark!("calls.mask-64-by-one"),
+        127 => mark!("calls.mask-127"),
+        _ => {}
+    }
+    let masked = cleared(addr, len);
+    if masked == addr && len < 128 {
+        mark!("calls.mask-nothing-to-clear");
+    }
+    masked
+}
+
+/// The prefix of a prefix option.
+pub fn prefix_of(option: &[u8]) -> Addr {
+    cleared(be(&option[16..32]), option[2])
+}
+
+/// Whether a prefix option has a bit past its length.
+fn has_bits(option: &[u8]) -> bool {
+    prefix_of(option) != be(&option[16..32])
+}
+
 /// Whether an address ends in the EUI-64 of a hardware address.
 pub fn is_formed(addr: Addr, mac: Mac) -> bool {
     let formed = addr as u64 == eui64(mac);
@@ -412,6 +450,12 @@ pub fn read_option(rest: &[u8]) -> Option<(u8, &[u8])> {
                     _ => {}
                 }
             }
+            if option[2] > 128 && be(&option[16..32]) != 0 {
+                mark!("calls.option-above-128");
+            }
+            if has_bits(option) {
+                mark!("calls.wide-option-bits");
+            }
         }
         if option.len() < rest.len() {
             mark!("calls.option-with-more-behind");
@@ -454,6 +498,12 @@ pub fn next(message: &[u8], place: usize) -> Next<'_> {
                 4 => mark!("calls.next-4"),
                 5 => mark!("calls.next-5"),
                 _ => mark!("calls.next-unknown"),
+            }
+            if kind == 3 && option[2] > 128 && be(&option[16..32]) != 0 {
+                mark!("calls.next-above-128");
+            }
+            if kind == 3 && has_bits(option) {
+                mark!("calls.wide-next-bits");
             }
             if place > 0 {
                 mark!("calls.next-not-the-first");
@@ -923,8 +973,11 @@ impl Model {
                     if option.len() > 32 {
                         mark!("option.3-longer");
                     }
-                    let key = (be(&option[16..32]), option[2]);
+                    let key = (prefix_of(option), option[2]);
                     if seen.contains(&key) {
+                        if option[3] & 0x40 != 0 && has_bits(option) {
+                            mark!("bits.in-same-message");
+                        }
                         if be(&option[4..8]) == 0 {
                             mark!("prefix.zero-in-same-message");
                         } else {
@@ -1176,7 +1229,7 @@ impl Model {
             return false;
         }
 
-        for (i, p) in slaac.prefixes.iter().enumerate() {
+        for p in &slaac.prefixes {
             if p.len != 64 {
                 mark!("sync.length-not-64");
                 continue;
@@ -1187,10 +1240,6 @@ impl Model {
             } else {
                 mark!("formed.bit-set");
             }
-            if p.addr as u64 != 0 {
-                mark!("formed.low-bytes-dropped");
-            }
-            let twin = slaac.prefixes[..i].iter().any(|q| q.len == 64 && q.addr >> 64 == p.addr >> 64);
             let known = addrs.iter().position(|a| a.addr == addr && a.len == 64);
             if !over(p.valid, now) {
                 let preferred = if !over(p.preferred, now) {
@@ -1212,17 +1261,11 @@ impl Model {
                 match known {
                     Some(k) if addrs[k].slaac => {
                         mark!("sync.address-refreshed");
-                        if twin {
-                            mark!("sync.twin-refreshes");
-                        }
                         addrs[k].preferred = preferred;
                     }
                     Some(_) => mark!("sync.application-address-stays"),
                     None if addrs.len() < ADDRESSES => {
                         mark!("sync.address-appended");
-                        if twin {
-                            mark!("sync.twin-appends");
-                        }
                         if addrs.iter().any(|a| a.addr == addr) {
                             mark!("sync.application-address-of-other-length");
                         }
@@ -1241,9 +1284,6 @@ impl Model {
                         mark!("sync.address-gone");
                         if k + 1 < addrs.len() {
                             mark!("sync.address-gone-others-move");
-                        }
-                        if twin {
-                            mark!("sync.twin-removes");
                         }
                         if self.neighbours.iter().any(|n| n.iface == iface) {
                             mark!("sync.address-gone-neighbours-stay");
@@ -1886,9 +1926,13 @@ fn learn_prefix(slaac: &mut Slaac, now: u64, option: &[u8]) {
     let len = option[2];
     let valid = be(&option[4..8]) as u64;
     let preferred = be(&option[8..12]) as u64;
-    let addr = be(&option[16..32]);
+    let given = be(&option[16..32]);
+    let addr = prefix_of(option);
     if option[3] & 0x40 == 0 {
         mark!("prefix.not-autonomous");
+        if addr != given {
+            mark!("length.not-autonomous-bits");
+        }
         return;
     }
     if len > 128 {
@@ -1900,6 +1944,9 @@ fn learn_prefix(slaac: &mut Slaac, now: u64, option: &[u8]) {
     }
     if is_link_local(addr) {
         mark!("prefix.link-local");
+        if !is_link_local(given) {
+            mark!("bits.link-local");
+        }
         return;
     }
     if is_multicast(addr) {
@@ -1925,8 +1972,30 @@ fn learn_prefix(slaac: &mut Slaac, now: u64, option: &[u8]) {
     if option[3] & 0x3f != 0 {
         mark!("prefix.reserved-flags");
     }
-    if len == 128 {
-        mark!("prefix.length-128");
+    match len {
+        0 => mark!("length.0"),
+        63 => mark!("length.63"),
+        65 => mark!("length.65"),
+        127 => mark!("length.127"),
+        128 => mark!("prefix.length-128"),
+        _ => {}
+    }
+    if len == 128 && addr & 1 == 1 {
+        mark!("length.128-last-bit");
+    }
+    if addr != given {
+        match len {
+            0 => mark!("bits.length-0"),
+            63 => mark!("bits.length-63"),
+            64 => mark!("bits.length-64"),
+            65 => mark!("bits.length-65"),
+            127 => mark!("bits.length-127"),
+            _ => {}
+        }
+        // Of the byte that the length ends in.
+        if len % 8 > 0 && addr >> (120 - len / 8 * 8) != given >> (120 - len / 8 * 8) {
+            mark!("bits.inside-a-byte");
+        }
     }
     let known = slaac.prefixes.iter().position(|p| p.addr == addr && p.len == len);
     if valid > 0 {
@@ -1950,6 +2019,15 @@ fn learn_prefix(slaac: &mut Slaac, now: u64, option: &[u8]) {
         match known {
             Some(i) => {
                 mark!("prefix.refresh");
+                if addr != given {
+                    mark!("bits.refresh");
+                    if slaac.prefixes.len() == PREFIXES {
+                        mark!("bits.refresh-in-full-table");
+                    }
+                    if entry.valid.is_none() {
+                        mark!("bits.refresh-forever");
+                    }
+                }
                 let before = slaac.prefixes[i].valid;
                 if over(before, now) {
                     mark!("prefix.refresh-expired");
@@ -1965,6 +2043,15 @@ fn learn_prefix(slaac: &mut Slaac, now: u64, option: &[u8]) {
             }
             None if slaac.prefixes.len() < PREFIXES => {
                 mark!("prefix.append");
+                if addr != given {
+                    mark!("bits.append");
+                }
+                if is_link_local(given) {
+                    mark!("bits.not-link-local");
+                }
+                if is_multicast(given) {
+                    mark!("bits.not-multicast");
+                }
                 if slaac.prefixes.iter().any(|p| p.addr == addr) {
                     mark!("prefix.append-other-length");
                 }
@@ -1976,6 +2063,9 @@ fn learn_prefix(slaac: &mut Slaac, now: u64, option: &[u8]) {
             }
             None => {
                 mark!("prefix.full");
+                if addr != given {
+                    mark!("bits.full");
+                }
                 if slaac.prefixes.iter().any(|p| over(p.valid, now)) {
                     mark!("prefix.full-with-expired");
                 }
@@ -1985,6 +2075,9 @@ fn learn_prefix(slaac: &mut Slaac, now: u64, option: &[u8]) {
         match known {
             Some(i) => {
                 mark!("prefix.zero");
+                if addr != given {
+                    mark!("bits.zero");
+                }
                 if slaac.prefixes[i].valid.is_none() {
                     mark!("forever.to-zero");
                 }

@@ -22,9 +22,10 @@ fn main() {
         })
     };
     let (seed, first) = (number(0), number(1));
+    let reach = oracle::generate::Reach::of(wide);
     let made = |n: u64| match calls {
-        true => (oracle::generate::calls(seed, n, wide).join("\n") + "\n").into_bytes(),
-        false => oracle::generate::file(seed, n, wide),
+        true => (oracle::generate::calls(seed, n, reach).join("\n") + "\n").into_bytes(),
+        false => oracle::generate::file(seed, n, reach),
     };
     let end = if calls { "calls" } else { "in" };
     match args.get(3) {

@@ -1,11 +1,12 @@
-//! `record FOLDER`: recorded cases `N.in` and `N.out`, answers by the real code. See README.md.
+//! `record FOLDER`: recorded cases `N.in` and `N.out`, answers by the real code, or by the model where it leaves its range. See README.md.
 
 use std::collections::HashSet;
 use std::fs;
 use std::path::PathBuf;
 use std::process::exit;
 
-use oracle::{events, generate, shrink};
+use oracle::generate::{self, Reach};
+use oracle::{events, shrink};
 
 const USAGE: &str = "record FOLDER [-s SEED] [-n CANDIDATES]
 
@@ -22,7 +23,7 @@ const WRITTEN: &[(&str, &str)] = &[
         "mac 020000000001\naddresses 0\nevents 7\n0 start 20010db8000000000000000000000001\n0 sweep\n999 sweep\n1000 sweep\n1999 sweep\n2000 sweep\n3000 sweep\n",
     ),
     (
-        "two prefixes of one address, the second with 0: the address goes, the first entry stays",
+        "a prefix without low bytes and with them is one entry, and with valid 0 it goes, its address too",
         "mac 020000000001\naddresses 0\nevents 4\n0 ra fe800000000000000000000000000001 86000000000007080000000000000000030440c000000e10000007080000000020010db8000000010000000000000000030440c000000e10000007080000000020010db8000000010000000000000001\n0 poll\n1 ra fe800000000000000000000000000001 86000000000007080000000000000000030440c000000000000000000000000020010db8000000010000000000000001\n1 poll\n",
     ),
     (
@@ -289,10 +290,104 @@ fn forever_cases() -> Vec<(&'static str, String)> {
         ("forever: from finite, expired and not left", file(&[ra(0, 0, &[prefix(1, 2, 1)]), e("0 poll"), ra(2_500, 0, &[prefix(1, ALL, ALL)]), e("2500 poll")])),
         ("forever: a full table ignores a fifth", file(&[ra(0, 0, &five), e("0 poll"), ra(9, 0, &[prefix(6, 9, 9)]), e("9 poll")])),
         ("forever: beside a prefix that ends", file(&[ra(0, 0, &[prefix(1, 1, 1), prefix(2, ALL, ALL), prefix(3, 1, 0)]), e("0 poll"), e("1000 poll")])),
-        ("forever: the same address by another prefix, ended: gone", file(&[ra(0, 0, &[prefix(1, ALL, ALL), wide(1, 1, 9, 9)]), e("0 poll"), ra(1, 0, &[wide(1, 1, 0, 0)]), e("1 poll")])),
+        ("forever: the same prefix with low bytes, ended: gone", file(&[ra(0, 0, &[prefix(1, ALL, ALL), wide(1, 1, 9, 9)]), e("0 poll"), ra(1, 0, &[wide(1, 1, 0, 0)]), e("1 poll")])),
         ("forever: then off", file(&[ra(0, 9, &[prefix(1, ALL, ALL)]), e("0 poll"), e("1 off")])),
     ]
 }
+
+/// Bits past a prefix length, which the Rust keeps. A prefix option is made of its digits, length, valid and preferred.
+fn bits_cases() -> Vec<(&'static str, String)> {
+    const ALL: u32 = 0xffff_ffff;
+    const ONES: &str = "ffffffffffffffffffffffffffffffff";
+    let flagged = |addr: &str, len: u8, flags: u8, valid: u32, preferred: u32| {
+        format!("0304{len:02x}{flags:02x}{valid:08x}{preferred:08x}00000000{addr}")
+    };
+    let whole = |addr: &str, len: u8, valid: u32, preferred: u32| flagged(addr, len, 0xc0, valid, preferred);
+    let low = |bits: u64, len: u8, valid: u32, preferred: u32| whole(&format!("20010db800000001{bits:016x}"), len, valid, preferred);
+    let ra = |time: u64, options: &[String]| {
+        format!("{time} ra fe800000000000000000000000000001 86000000000000000000000000000000{}", options.concat())
+    };
+    let file = |events: &[String]| format!("mac 020000000001\naddresses 0\nevents {}\n{}\n", events.len(), events.join("\n"));
+    let one = |options: &[String]| file(&[ra(0, options), "0 poll".into()]);
+    let poll = |time: u64| format!("{time} poll");
+    let ones = u64::MAX;
+    let four: Vec<String> = (1..=4).map(|n| whole(&format!("20010db8{n:08x}0000000000000000"), 64, 9, 5)).collect();
+    vec![
+        ("bits: one entry without and with bits, refreshed", file(&[ra(0, &[low(0, 64, 9, 5)]), poll(0), ra(1, &[low(1, 64, 8, 4)]), poll(1)])),
+        (
+            "bits: the same, then withdrawn with others",
+            file(&[ra(0, &[low(0, 64, 9, 5)]), poll(0), ra(1, &[low(1, 64, 8, 4)]), poll(1), ra(2, &[low(ones, 64, 0, 0)]), poll(2)]),
+        ),
+        ("bits: withdrawn, before the sync", file(&[ra(0, &[low(ones, 64, 9, 5)]), poll(0), ra(2, &[low(0, 64, 0, 0)])])),
+        ("bits: preferred above valid withdraws nothing", file(&[ra(0, &[low(1, 64, 9, 5)]), poll(0), ra(2, &[low(2, 64, 0, 1)]), poll(2)])),
+        ("bits: lengths 63, 65, 100 and 127", one(&[low(ones, 63, 9, 5), low(ones, 65, 9, 5), low(ones, 100, 9, 5), low(ones, 127, 9, 5)])),
+        ("bits: lengths 127, 128 and 129", one(&[low(ones, 127, 9, 5), low(ones, 128, 9, 5), low(ones, 129, 9, 5)])),
+        (
+            "bits: none behind lengths 0, 63, 65 and 127",
+            one(&[
+                whole(&"0".repeat(32), 0, 9, 5),
+                whole("20010db8000000020000000000000000", 63, 9, 5),
+                low(1 << 63, 65, 9, 5),
+                low(ones - 1, 127, 9, 5),
+            ]),
+        ),
+        ("bits: none behind length 128", one(&[low(ones, 128, 9, 5), low(ones - 1, 128, 8, 4), low(ones, 129, 9, 5)])),
+        ("bits: any prefix of length 0 is ::", file(&[ra(0, &[whole(ONES, 0, 9, 5)]), poll(0), ra(1, &[low(7, 0, 8, 4)]), poll(1)])),
+        ("bits: fe80:: of length 8 is fe00::", one(&[whole("fe800000000000000000000000000000", 8, 9, 5)])),
+        ("bits: ff02:: of length 7 is fe00::", one(&[whole("ff020000000000000000000000000000", 7, 9, 5)])),
+        ("bits: fec0:: of length 9 is fe80::, skipped", one(&[whole("fec00000000000000000000000000000", 9, 9, 5)])),
+        (
+            "bits: a full table takes what it knows and ignores what not",
+            file(&[ra(0, &four), poll(0), ra(1, &[low(ones, 64, 8, 4), low(ones, 65, 8, 4)]), poll(1), ra(2, &[low(1, 64, 0, 0)]), poll(2)]),
+        ),
+        ("bits: infinite lifetimes", file(&[ra(0, &[low(1, 64, ALL, ALL)]), poll(0), ra(1, &[low(2, 64, ALL, 1)]), poll(1), ra(2, &[low(3, 64, 0, 0)])])),
+        ("bits: in one message", one(&[low(1, 64, 9, 5), low(2, 64, 8, 4), low(1, 65, 7, 3), low(2, 65, 0, 0)])),
+        (
+            "bits: of what is not taken",
+            file(&[ra(0, &[low(0, 64, 9, 5)]), poll(0), ra(1, &[flagged(ONES, 0, 0x80, 9, 5)]), ra(2, &[low(1, 64, 0, 0), "01".into()]), poll(2)]),
+        ),
+    ]
+}
+
+/// Files found before bits past a prefix length were cleared (request 2026-02). For these rules others would be found now, some with such bits.
+const FOUND: &[(&str, &str)] = &[
+    (
+        "format.odd-digits",
+        "mac 42c7bca3b07e\naddresses 0\nevents 1\n0 ra fe800000000000000000000000000001 8\n",
+    ),
+    (
+        "prefix.preferred-above-valid-zero-known",
+        "mac 030000000001\naddresses 0\nevents 1\n4001 ra fe800000000000000000000000000001 860000000000b9dc0000000000000000030440c000017449000174497d462aaf20010db8000000040000000000000000030540c00000000000000001ad4d9ede20010db80000000400000000000000000000000000000000030440c00010624d000df8d90000000020010db8000000010000000000000000\n",
+    ),
+    (
+        "prefix.refresh-expired",
+        "mac 585232e999c3\naddresses 0\nevents 2\n60000 ra fe800000000000000000000000000001 86009a18403f00009a187dcb4877ea9e030440c00000000a000000050000000020010db8000000030000000000000000\n70000 ra fe800000000000000000000000000001 8600cd6940000000cd6972f9838eba280304404000000004000000030000000020010db8000000030000000000000000030440c00000000a00000002a2299af420010db8000000020000000000000000030440c000008b24000000000000000020010db8000000020000000000000000\n",
+    ),
+];
+
+/// Files found for rules that request 2026-02 ended, in their places: behind this rule, what they are, and their text.
+const ENDED: &[(&str, &str, &str)] = &[
+    (
+        "formed.bit-cleared",
+        "bits: an address of a prefix with low bytes",
+        "mac b80372f14619\naddresses 0\nevents 2\n0 ra fe800000000000000000000000000001 860000000000ffff0000000000000000030440c000000001000000000000000020010db8000000010000000000000001\n0 poll\n",
+    ),
+    (
+        "sync.addresses-full",
+        "bits: two prefixes that differ in their low bytes are one",
+        "mac 020000000001\naddresses 0\nevents 2\n0 ra fe800000000000000000000000000003 860028e2403f000028e2be7c457b7872030440c000000708000000150000000020010db800000001ffffffffffffffff030440c000000708000003470000000020010db8000000010000000000000001\n0 poll\n",
+    ),
+    (
+        "sync.addresses-full",
+        "bits: the same, the second longer: one entry, refreshed",
+        "mac 00005e005301\naddresses 0\nevents 2\n0 ra fe8000000000000002005efffe005301 8600000000400000000000000000000001010200000000bb030440c000000004000000000000000020010db8000000010000000000000000030440c000001c20000000000000000020010db800000001000000000000000101010200000000bb01010c034f0bd066\n60000 poll\n",
+    ),
+    (
+        "sync.addresses-full",
+        "bits: the same, the second shorter: one entry, ended",
+        "mac 020000000001\naddresses 0\nevents 2\n0 ra fe800000000000000000000000000003 86000000000000070000000000000000030440c00010624d0010624d0000000020010db8000000010000000000000001030440c000000001000000010000000020010db8000000010000000000000000\n1001 poll\n",
+    ),
+];
 
 /// What the event program holds of its input, and of its output.
 const IN_BLOCK: usize = 69_632;
@@ -517,14 +612,19 @@ struct Record {
     seen: HashSet<Vec<u8>>,
     number: usize,
     reached: HashSet<usize>,
+    by_model: usize,
     bytes: usize,
 }
 
 impl Record {
+    /// A case with the real code's answer; with the model's if it has bits past a prefix length.
     fn put(&mut self, name: &str, input: &[u8]) {
         let outcome = events::run(input);
-        if outcome.outside.is_some() || !self.seen.insert(input.to_vec()) {
+        if outcome.outside_by_another || !self.seen.insert(input.to_vec()) {
             return;
+        }
+        if outcome.outside.is_some() {
+            return self.put_model(name, input);
         }
         if outcome.output != model::script::run(input) {
             eprintln!("{name}: the model differs");
@@ -535,6 +635,7 @@ impl Record {
 
     /// A case with the model's answer.
     fn put_model(&mut self, name: &str, input: &[u8]) {
+        self.by_model += 1;
         let output = model::script::run(input);
         self.write(name, input, &output);
     }
@@ -558,6 +659,7 @@ fn main() {
         seen: HashSet::new(),
         number: 0,
         reached: HashSet::new(),
+        by_model: 0,
         bytes: 0,
     };
     for (name, text) in WRITTEN {
@@ -572,8 +674,8 @@ fn main() {
     let names = model::marks::names();
     let mut smallest: Vec<Option<Vec<u8>>> = vec![None; names.len()];
     for n in 0..candidates {
-        let input = generate::file(seed, n, false);
-        if events::run(&input).outside.is_some() {
+        let input = generate::file(seed, n, Reach::Bits);
+        if events::run(&input).outside_by_another {
             continue;
         }
         for rule in fired(&input) {
@@ -583,15 +685,20 @@ fn main() {
         }
     }
     for (rule, input) in smallest.into_iter().enumerate() {
-        if names[rule].starts_with("calls.") || names[rule].starts_with("forever.") {
+        if ["calls.", "forever.", "length.", "bits."].iter().any(|s| names[rule].starts_with(s)) {
             continue;
         }
-        let Some(input) = input else {
+        if let Some((_, text)) = FOUND.iter().find(|f| f.0 == names[rule]) {
+            record.put(names[rule], text.as_bytes());
+        } else if let Some(input) = input {
+            let small = shrink::shrink(&input, |i| fired(i).contains(&rule) && !events::run(i).outside_by_another);
+            record.put(names[rule], &small);
+        } else {
             eprintln!("no file fires {}", names[rule]);
-            continue;
-        };
-        let small = shrink::shrink(&input, |i| fired(i).contains(&rule) && events::run(i).outside.is_none());
-        record.put(names[rule], &small);
+        }
+        for (_, name, text) in ENDED.iter().filter(|e| e.0 == names[rule]) {
+            record.put(name, text.as_bytes());
+        }
     }
 
     for (name, input) in format_cases() {
@@ -600,7 +707,7 @@ fn main() {
     // Some whole files, for what rules do together.
     let mut whole = 0;
     for n in candidates.. {
-        let input = generate::file(seed, n, false);
+        let input = generate::file(seed, n, Reach::Bits);
         if input.len() < 12_000 && input.iter().filter(|b| **b == b'\n').count() > 12 {
             record.put("by chance", &input);
             whole += 1;
@@ -611,6 +718,12 @@ fn main() {
     }
     for (name, text) in forever_cases() {
         record.put_model(name, text.as_bytes());
+    }
+    for (name, text) in bits_cases() {
+        match events::run(text.as_bytes()).outside {
+            Some(_) => record.put_model(name, text.as_bytes()),
+            None => record.put(name, text.as_bytes()),
+        }
     }
     // These must not be passed over.
     for (name, input) in large_cases() {
@@ -623,8 +736,9 @@ fn main() {
     let total: Vec<usize> = (0..names.len()).filter(|i| !names[*i].starts_with("calls.")).collect();
     let reached = total.iter().filter(|i| record.reached.contains(i)).count();
     eprintln!(
-        "{} cases, {} bytes; rules reached: {reached} of {}",
+        "{} cases, {} of them by the model, {} bytes; rules reached: {reached} of {}",
         record.number,
+        record.by_model,
         record.bytes,
         total.len()
     );

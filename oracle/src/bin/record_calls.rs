@@ -8,7 +8,7 @@ use std::process::exit;
 use oracle::calls::{self, Modelled, Real, Side};
 use oracle::events::LINE;
 use oracle::folder;
-use oracle::generate;
+use oracle::generate::{self, Reach};
 use oracle::scenes::{self, Scene};
 
 const USAGE: &str = "record-calls FOLDER [-s SEED] [-n CANDIDATES]
@@ -34,13 +34,13 @@ fn answers(side: &mut dyn Side, text: &[u8]) -> Vec<String> {
 }
 
 /// The model's answers, after the real code's were held against them: up to where a line leaves its range, and from the next `new` on. Also
-/// the rule that is left first.
-fn both(name: &str, text: &[u8]) -> (Vec<String>, Option<String>) {
+/// the rule that is left first, and whether one is left other than that of the bits past a prefix length.
+fn both(name: &str, text: &[u8]) -> (Vec<String>, Option<String>, bool) {
     let (mut real, mut modelled) = (Real::default(), Modelled::default());
-    let (mut answers, mut outside) = (Vec::new(), None);
+    let (mut answers, mut outside, mut by_another) = (Vec::new(), None, false);
     for (i, line) in calls::split(text).into_iter().enumerate() {
         let by_model = calls::answer_bytes(&mut modelled, line);
-        if real.outside().is_none() || line.starts_with(b"new ") {
+        if !real.outside_by_another() || line.starts_with(b"new ") {
             let by_rust = calls::answer_bytes(&mut real, line);
             if real.outside().is_none() && by_rust != by_model {
                 let line = String::from_utf8_lossy(line);
@@ -48,9 +48,10 @@ fn both(name: &str, text: &[u8]) -> (Vec<String>, Option<String>) {
             }
         }
         outside = outside.or(real.outside().map(String::from));
+        by_another |= real.outside_by_another();
         answers.push(by_model);
     }
-    (answers, outside)
+    (answers, outside, by_another)
 }
 
 /// How many bytes a call file prints.
@@ -101,7 +102,7 @@ struct Record {
 impl Record {
     /// A case. Its answers are the real code's and the model's; the model's alone where it says so.
     fn put(&mut self, scene: &Scene) {
-        let (answers, outside) = both(&scene.name, &scene.text);
+        let (answers, outside, _) = both(&scene.name, &scene.text);
         match &outside {
             Some(rule) if !scene.outside => stop(&format!("{}: {rule}", scene.name)),
             None if scene.outside => stop(&format!("{}: nothing of it is outside the Rust's range", scene.name)),
@@ -152,7 +153,7 @@ fn large(seed: u64, first: u64) -> Vec<u8> {
     let mut number = first;
     let mut sequence = || loop {
         number += 1;
-        let text = text(&generate::calls(seed, number, false));
+        let text = text(&generate::calls(seed, number, Reach::Inside));
         if both("large", &text).1.is_none() {
             return text;
         }
@@ -225,7 +226,7 @@ fn main() {
     let of_calls: Vec<usize> = (0..names.len()).filter(|i| names[*i].starts_with("calls.")).collect();
     let mut smallest: Vec<Option<Vec<String>>> = vec![None; names.len()];
     for n in 0..candidates {
-        let lines = generate::calls(seed, n, false);
+        let lines = generate::calls(seed, n, Reach::Bits);
         for rule in fired(&text(&lines)) {
             if smallest[rule].as_ref().is_none_or(|s| lines.len() < s.len()) {
                 smallest[rule] = Some(lines.clone());
@@ -247,9 +248,10 @@ fn main() {
     let mut number = candidates;
     while record.number < by_rule + WHOLE {
         number += 1;
-        let text = text(&generate::calls(seed, number, false));
-        if both("by chance", &text).1.is_none() {
-            record.put(&Scene { name: "by chance".into(), text, outside: false });
+        let text = text(&generate::calls(seed, number, Reach::Bits));
+        let (_, outside, by_another) = both("by chance", &text);
+        if !by_another {
+            record.put(&Scene { name: "by chance".into(), text, outside: outside.is_some() });
         }
     }
     record.put(&Scene { name: "large: more than three blocks of input and of output".into(), text: large(seed, number), outside: false });

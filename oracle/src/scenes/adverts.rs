@@ -97,7 +97,7 @@ pub fn adverts() -> Vec<Scene> {
             "addresses 0"
         ]);
     }
-    cases.push(scene("advert: prefix lengths", lines));
+    cases.push(modelled("advert: prefix lengths", lines));
     let mut lines = Vec::new();
     for flags in [0x00, ON_LINK, AUTONOMOUS, BOTH, 0x3f, 0x7f, 0xbf, 0xff] {
         lines.extend(lines![
@@ -126,7 +126,7 @@ pub fn adverts() -> Vec<Scene> {
     ] {
         lines.extend(lines![new(), said(0, 0, 0, &[at(addr)]), "prefixes 0", "slaac 0", "poll 0 0 - 16", "addresses 0"]);
     }
-    cases.push(scene("advert: prefixes that are link-local, multicast, neither", lines));
+    cases.push(modelled("advert: prefixes that are link-local, multicast, neither", lines));
     let mut lines = Vec::new();
     for addr in ["fe800000000000010000000000000000", "febfffffffffffff0000000000000000", "fe900000000000000000000000000000"] {
         lines.extend(lines![new(), said(0, 0, 0, &[at(addr)]), "prefixes 0", "poll 0 0 - 16", "addresses 0"]);
@@ -142,9 +142,9 @@ pub fn adverts() -> Vec<Scene> {
         lines.extend(lines![format!("ra 0 {source} 0 {}", advert(0, 9, &[lladdr(&mac(1))])), "routers 0"]);
     }
     cases.push(scene("advert: sources that are link-local", lines));
-    // Prefixes match by all 16 bytes and the length.
+    // Prefixes match by the bits of their length, and the length.
     let twin = |low: u64, len: u8, valid: u32| format!("0304{len:02x}c0{valid:08x}{valid:08x}0000000020010db800000001{low:016x}");
-    cases.push(scene(
+    cases.push(modelled(
         "advert: prefixes that differ in their low bytes or their length",
         lines![
             said(0, 0, 0, &[twin(0, 64, 9), twin(1, 64, 8), twin(0, 63, 7), twin(0, 128, 6)]),

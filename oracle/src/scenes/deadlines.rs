@@ -134,7 +134,11 @@ pub fn poll_deadlines() -> Vec<Scene> {
             lines.extend(made.clone());
             lines.extend(lines![format!("poll 0 {NOW} {deadline} 16"), "slaac 0"]);
         }
-        cases.push(scene(format!("deadline: poll, {name}"), lines));
+        // A length of 63 leaves the last bit of 2001:db8:0:1 behind it.
+        cases.push(match name {
+            "a prefix of another length" => modelled(format!("deadline: poll, {name}"), lines),
+            _ => scene(format!("deadline: poll, {name}"), lines),
+        });
     }
     let mut lines = Vec::new();
     for (before, at) in [(3_999, 4_000), (3_999, 4_001), (0, 90_000)] {

@@ -209,6 +209,11 @@ pub fn form(prefix: Addr, len: u8, mac: Mac) -> Option<Addr> {
     Some(formed.address().octets())
 }
 
+/// The real `mask`; it asserts that the length is 128 at most.
+pub fn mask(addr: Addr, len: u8) -> Addr {
+    v6(addr).mask(len)
+}
+
 /// The real length check, type and code of an advertisement: document 01's number 5 if false.
 pub fn is_advertisement(message: &[u8]) -> bool {
     advertisement(message).is_some()

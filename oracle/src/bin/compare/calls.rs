@@ -201,7 +201,7 @@ impl Calls {
         while next < first + count && (differ == 0 || all) {
             let upto = (next + BATCH).min(first + count);
             let sequences: Vec<Vec<Vec<u8>>> = (next..upto)
-                .map(|n| generate::calls(seed, n, self.wide).into_iter().map(String::into_bytes).collect())
+                .map(|n| generate::calls(seed, n, generate::Reach::of(self.wide)).into_iter().map(String::into_bytes).collect())
                 .collect();
             let lines = sequences.concat();
             model::marks::take();

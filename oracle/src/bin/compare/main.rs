@@ -347,7 +347,7 @@ fn compare_generated(compare: &Compare, seed: u64, first: u64, count: u64, kept:
     let began = Instant::now();
     let mut shown = Instant::now();
     for n in first..first + count {
-        let input = generate::file(seed, n, compare.wide);
+        let input = generate::file(seed, n, generate::Reach::of(compare.wide));
         if let Ok((l, r)) = sum.both(compare, &input)
             && l != r
         {
@@ -431,10 +431,10 @@ fn compare_paths(compare: &Compare, paths: &[PathBuf], keep: Option<&Path>, rule
     sum.status()
 }
 
-/// How many rules fired, and if asked which did not: those of event files, or those of single calls. Infinite lifetimes are outside the
-/// Rust's range.
+/// How many rules fired, and if asked which did not: those of event files, or those of single calls. Some are outside the Rust's range.
 fn print_rules(fired: &[u64], calls: bool, wide: bool, list: bool) {
-    let of_kind = |name: &str| name.starts_with("calls.") == calls && (wide || !name.starts_with("forever.") && !name.starts_with("calls.wide-"));
+    let outside = |name: &str| ["forever.", "bits.", "calls.wide-"].iter().any(|s| name.starts_with(s));
+    let of_kind = |name: &str| name.starts_with("calls.") == calls && (wide || !outside(name));
     let times = |i: usize| fired.get(i).copied().unwrap_or(0);
     let rules: Vec<(&str, u64)> = model::marks::names()
         .iter()
