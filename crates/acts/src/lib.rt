@@ -283,29 +283,6 @@ fn on(world: World, args: Args) -> Left {
     done(world.with_iface(args.iface, iface), outcome)
 }
 
-fn off(world: World, args: Args) -> Left {
-    let mut iface = world.iface(args.iface);
-    let slaac = iface.slaac;
-    let addrs = iface.addrs;
-    let routes = world.routes;
-    let cache = world.cache;
-    let queue = world.queue;
-    let left = autoconf::turn_off(slaac, addrs, routes, cache, queue, args.iface);
-    let outcome = left.outcome;
-    let slaac_after = left.slaac;
-    let addrs_after = left.addrs;
-    let routes_after = left.routes;
-    let cache_after = left.cache;
-    let queue_after = left.queue;
-    iface.slaac = slaac_after;
-    iface.addrs = addrs_after;
-    let mut after = world.with_iface(args.iface, iface);
-    after.routes = routes_after;
-    after.cache = cache_after;
-    after.queue = queue_after;
-    done(after, outcome)
-}
-
 fn ra(world: World, args: Args, message: &[u8]) -> Left {
     let source = args.addr;
     let mut iface = world.iface(args.iface);
@@ -337,7 +314,6 @@ fn slaac_act(world: World, args: Args, message: &[u8]) -> Left {
         LINK => link(world, args),
         RESTART => restart(world, args),
         ON => on(world, args),
-        OFF => off(world, args),
         _ => ra(world, args, message),
     }
 }
@@ -425,6 +401,34 @@ fn purged(world: World, args: Args, out: &mut [u8], at: usize) -> After {
     let queue = left.queue;
     let mut after = world;
     after.queue = queue;
+    After {
+        world: after,
+        at: handed_back(out, at, outcome, dropped),
+    }
+}
+
+// Turning SLAAC off: what it leaves, and the handles of the packets that went with an address.
+fn off(world: World, args: Args, out: &mut [u8], at: usize) -> After {
+    let mut iface = world.iface(args.iface);
+    let slaac = iface.slaac;
+    let addrs = iface.addrs;
+    let routes = world.routes;
+    let cache = world.cache;
+    let queue = world.queue;
+    let left = autoconf::turn_off(slaac, addrs, routes, cache, queue, args.iface);
+    let outcome = left.outcome;
+    let dropped = left.handles;
+    let slaac_after = left.slaac;
+    let addrs_after = left.addrs;
+    let routes_after = left.routes;
+    let cache_after = left.cache;
+    let queue_after = left.queue;
+    iface.slaac = slaac_after;
+    iface.addrs = addrs_after;
+    let mut after = world.with_iface(args.iface, iface);
+    after.routes = routes_after;
+    after.cache = cache_after;
+    after.queue = queue_after;
     After {
         world: after,
         at: handed_back(out, at, outcome, dropped),
@@ -550,6 +554,7 @@ fn poll(world: World, args: Args, out: &mut [u8], at: usize) -> After {
 fn call(world: World, args: Args, message: &[u8], out: &mut [u8], at: usize) -> After {
     let code = args.code;
     match code {
+        OFF => off(world, args, out, at),
         ORPHANS | PURGE => purged(world, args, out, at),
         SWEEP => sweep(world, args, out, at),
         POLL => poll(world, args, out, at),

@@ -28,7 +28,7 @@ use Rattle.wire.specs.declared.ethernet.HardwareAddress.{HardwareAddress}
 use Rattle.wire.specs.declared.ipv6.Formed.the-variants.{Nothing, Addr}
 use Rattle.wire.specs.declared.ipv6.Formed.{Formed}
 use Rattle.autoconf.specs.Distinct.{slaacFormed, slaacPrefix, slaacAddrs, AddressesOnce}
-use Rattle.autoconf.specs.OffRules.{turnedOff, offNow, offBy, TurnedOffTo}
+use Rattle.autoconf.specs.OffRules.{offNow, leftAlone, offBy, TurnedOffTo}
 use Rattle.autoconf.specs.PollRules.{polled, synced, syncTurn, pollOn, pollBy, PolledTo}
 use Rattle.autoconf.specs.SyncRules.{preferredOf, syncFormed, syncPrefix, syncAddrs}
 use Rattle.autoconf.specs.declared.PollAnswer.the-variants.{Off}
@@ -110,7 +110,7 @@ module _ (s : Slaac) (t : IfaceAddrs) (r : Routes) (iface : ℕ) where
     unfolding offNow
     once-off w o = subst (λ (y : TurnedOff). AddrsOnce (y .addrs)) (sym (w .is)) (by (ifaceCheck iface))
       where
-        on : (b : Bool) → AddrsOnce (cond {A = TurnedOff} b (offNow t r c q iface) (turnedOff s t r c q Done) .addrs)
+        on : (b : Bool) → AddrsOnce (cond {A = TurnedOff} b (offNow t r c q iface) (leftAlone s t r c q Done) .addrs)
         on true = once-clear t o
         on false = o
 

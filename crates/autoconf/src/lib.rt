@@ -2,6 +2,9 @@
 // turning it off takes them away.
 mod sync;
 
+ghost use mathlib.Core.Path.{_≡_};
+ghost use mathlib.Core.List.{[]};
+ghost use Rattle.pending.specs.QueueCalls.{handlesOf};
 ghost use Rattle.autoconf.specs.AdvertRules.{CheckedTo, optionsIn, TaughtTo, AdvertisedTo};
 ghost use Rattle.autoconf.specs.PollRules.{senderOf, TurnTo, PolledTo};
 ghost use Rattle.autoconf.specs.OffRules.{TurnedOffTo};
@@ -15,6 +18,8 @@ use ndisc::ndiscoption::NdiscOption;
 use ndisc::ndiscoption::Next;
 use ndisc::ndiscoption::Walk;
 use neighbor::NeighborCache;
+use pending::Handles;
+use pending::PENDING_QUEUE_COUNT;
 use pending::PendingQueue;
 use slaac::Discovery;
 use slaac::Slaac;
@@ -78,13 +83,14 @@ pub struct Turn {
     pub answer: PollAnswer,
 }
 
-// What turning SLAAC off leaves.
+// What turning SLAAC off leaves, and the handles of the packets that it dropped.
 pub struct TurnedOff {
     pub slaac: Slaac,
     pub addrs: IfaceAddrs,
     pub routes: Routes,
     pub cache: NeighborCache,
     pub queue: PendingQueue,
+    pub handles: Handles,
     pub outcome: Outcome,
 }
 
@@ -336,8 +342,19 @@ pub fn poll_at(
     }
 }
 
+// Zeros, and a count of 0: no packet was dropped.
+fn no_handles() -> Handles
+    ensures { λ r. ⌜ r ≡ handlesOf [] ⌝ }
+{
+    let slots = [0u32; PENDING_QUEUE_COUNT];
+    Handles {
+        slots: slots,
+        len: 0,
+    }
+}
+
 // SLAAC off, and its addresses and routes gone. If an address went, the interface's neighbours and packets go too, since they may have
-// come by it. What is off already stays.
+// come by it; the packets' handles come back. What is off already stays.
 pub fn turn_off(
     slaac: Slaac,
     addrs: IfaceAddrs,
@@ -348,6 +365,7 @@ pub fn turn_off(
 ) -> TurnedOff
     ensures { λ r. ⌜ TurnedOffTo slaac addrs routes cache queue iface r ⌝ }
 {
+    let none = no_handles();
     if let Check::Refused(why) = wire::error::check_iface(iface) {
         return TurnedOff {
             slaac: slaac,
@@ -355,6 +373,7 @@ pub fn turn_off(
             routes: routes,
             cache: cache,
             queue: queue,
+            handles: none,
             outcome: Outcome::Refused(why),
         };
     }
@@ -365,6 +384,7 @@ pub fn turn_off(
             routes: routes,
             cache: cache,
             queue: queue,
+            handles: none,
             outcome: Outcome::Done,
         };
     }
@@ -377,12 +397,14 @@ pub fn turn_off(
         let kept_neighbors = change.cache;
         let purged = queue.purge_iface(iface);
         let kept_packets = purged.queue;
+        let dropped = purged.handles;
         return TurnedOff {
             slaac: off,
             addrs: kept_addrs,
             routes: kept_routes,
             cache: kept_neighbors,
             queue: kept_packets,
+            handles: dropped,
             outcome: Outcome::Done,
         };
     }
@@ -392,6 +414,7 @@ pub fn turn_off(
         routes: kept_routes,
         cache: cache,
         queue: queue,
+        handles: none,
         outcome: Outcome::Done,
     }
 }

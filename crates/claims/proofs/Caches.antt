@@ -31,7 +31,7 @@ use Rattle.neighbor.specs.declared.Removed.{Removed}
 use Rattle.neighbor.specs.declared.State.the-variants.{Started, Incomplete, Reachable, Stale}
 use Rattle.neighbor.specs.declared.State.{State}
 use Rattle.pending.specs.declared.PendingQueue.{PendingQueue}
-use Rattle.autoconf.specs.OffRules.{clearedCache, offNow, offBy}
+use Rattle.autoconf.specs.OffRules.{clearedCache, offNow, leftAlone, offBy}
 use Rattle.autoconf.specs.AdvertRules.{messageCheck, optionsIn, lastSource, filledBy, step5, messageBy, callBy}
 use Rattle.autoconf.specs.declared.AdvertAnswer.the-variants.{Off}
 use Rattle.autoconf.specs.declared.Advertised.{Advertised}
@@ -183,7 +183,7 @@ turning (Fails why) s t r c q i = refl
 turning Fine s t r c q i = go (s .on)
   where
     go : (b : Bool)
-        → entries (cond {A = TurnedOff} b (offNow t r c q i) (record { slaac = s; addrs = t; routes = r; cache = c; queue = q; outcome = Done }) .cache)
+        → entries (cond {A = TurnedOff} b (offNow t r c q i) (leftAlone s t r c q Done) .cache)
         ≡ does (ifTaken (turnOff i (cond b (clearAddrs t .any) false))) (entries c)
     go true = clearing (clearAddrs t .any) c i
     go false = refl

@@ -5,6 +5,7 @@ use Rattle.claims.proofs.Arrives.{arrives}
 use Rattle.claims.proofs.Caches.{on-caches}
 use Rattle.claims.proofs.Cleared.{cleared}
 use Rattle.claims.proofs.Clocks.{clocks}
+use Rattle.claims.proofs.Counts.{counts}
 use Rattle.claims.proofs.Demand3.{demand3}
 use Rattle.claims.proofs.Determined.{determined}
 use Rattle.claims.proofs.Early.{not-early}
@@ -41,6 +42,7 @@ claims = record {
   looks = looks;
   keys-once = keys-once;
   accounted = accounted;
+  counts = counts;
   addresses-once = addresses-once;
   forward = forward-law;
   clocks = clocks;

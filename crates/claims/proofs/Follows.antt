@@ -6,13 +6,13 @@ use mathlib.Core.Bool.{Bool, true, false, cond, true≢false}
 use mathlib.Core.List.{List, [], _∷_, _++_, map, append-assoc}
 use mathlib.Core.Path.{_≡_, refl, sym, ap, _∙_, subst}
 use native.Mathlib.Omega.{arith}
-use Rattle.autoconf.specs.OffRules.{clearedQueue, offNow, offBy}
+use Rattle.autoconf.specs.OffRules.{clearedQueue, clearedHandles, offNow, leftAlone, offBy}
 use Rattle.autoconf.specs.declared.TurnedOff.{TurnedOff}
 use Rattle.claims.proofs.Caches.{follows as cache-follows}
 use Rattle.claims.proofs.Lists.{append-nil, map-append, kept-length}
 use Rattle.claims.specs.Caches.{wentBy, turns-off as cache-off}
 use Rattle.claims.specs.Calls.{turnOff, tableAfter}
-use Rattle.claims.specs.Packets.{Move, onCache, push, release, purgeOrphans, purgeIface, callsOf, tableNext, Numbered, Way, byOverflow, byRelease, byOrphans, byPurge, byOff, Departure, Ledger, packetOf, queueOf, numberFrom, opened, Parted, asks, departs, isFullOf, overflow, nobody, alone, firstOut, allOut, clearedBy, unlessRefused, parted, ledgerNext, ledgerAfter, ledger, handedBy, handed, handleList, Step, on-cache, turns-off, pushes, releases, purges-orphans, purges-iface, Run, none, one-more, Followed}
+use Rattle.claims.specs.Packets.{Move, onCache, push, release, purgeOrphans, purgeIface, callsOf, tableNext, Numbered, Way, byOverflow, byRelease, byOrphans, byPurge, byOff, Ledger, packetOf, queueOf, numberFrom, opened, Parted, asks, departs, isFullOf, overflow, nobody, alone, firstOut, allOut, clearedBy, unlessRefused, parted, ledgerNext, ledgerAfter, ledger, handleLeft, handed, handleList, Step, on-cache, turns-off, pushes, releases, purges-orphans, purges-iface, Run, none, one-more, Followed}
 use Rattle.iface.specs.AddressRules.{clearAddrs}
 use Rattle.iface.specs.declared.addr.IfaceAddrs.{IfaceAddrs}
 use Rattle.iface.specs.declared.route.Routes.{Routes}
@@ -51,7 +51,7 @@ queueNext purgeOrphans t q = kept (orphaned t) q
 queueNext (purgeIface i) t q = queueBy (ifaceCheck i) q (kept (onIface i) q)
 
 abbrev pub givesNext : Move → Table → Queue → List ℕ
-givesNext (onCache c) t q = []
+givesNext (onCache c) t q = map handleOf (dropped (clearedBy c) q)
 givesNext (push k h) t q = unless (ifaceCheck (k .iface)) (cond (isFull queueRoom q) (oldest q ∷ []) [])
 givesNext (release k) t q = unless (ifaceCheck (k .iface)) (firstOf (hasKey k) handleAlone [] q)
 givesNext purgeOrphans t q = map handleOf (dropped (orphaned t) q)
@@ -104,18 +104,9 @@ queue-next (purgeIface i) t l =
 
 -- and what it hands back
 
-handed-append : (xs ys : List Departure) → handed (xs ++ ys) ≡ handed xs ++ handed ys
-handed-append [] ys = refl
-handed-append (d ∷ xs) ys =
-    rw (handed-append xs ys) (sym (append-assoc (handedBy (d .way) (handleOf (d .who .packet))) (handed xs) (handed ys)))
-
-handed-way : (way : Way) → ((h : ℕ) → handedBy way h ≡ h ∷ []) → (ns : List Numbered) → handed (map (departs way) ns) ≡ map handleOf (queueOf ns)
-handed-way way f [] = refl
-handed-way way f (x ∷ ns) = rw (f (handleOf (x .packet)), handed-way way f ns)
-
-handed-off : (ns : List Numbered) → handed (map (departs byOff) ns) ≡ []
-handed-off [] = refl
-handed-off (x ∷ ns) = handed-off ns
+handed-way : (way : Way) (ns : List Numbered) → handed (map (departs way) ns) ≡ map handleOf (queueOf ns)
+handed-way way [] = refl
+handed-way way (x ∷ ns) = rw (handed-way way ns)
 
 dropped-map : (test : PendingPacket → Bool) (ns : List Numbered) → queueOf (dropped (asks test) ns) ≡ dropped test (queueOf ns)
 dropped-map test [] = refl
@@ -125,6 +116,10 @@ dropped-map test (x ∷ ns) = go (test (x .packet)) (dropped-map test ns)
         → queueOf (cond b (x ∷ dropped (asks test) ns) (dropped (asks test) ns)) ≡ cond b (x .packet ∷ dropped test (queueOf ns)) (dropped test (queueOf ns))
     go true h = rw h
     go false h = h
+
+out-handed : (way : Way) (test : PendingPacket → Bool) (ns : List Numbered)
+    → handed (map (departs way) (dropped (asks test) ns)) ≡ map handleOf (dropped test (queueOf ns))
+out-handed way test ns = handed-way way (dropped (asks test) ns) ∙ ap (map handleOf) (dropped-map test ns)
 
 one-handed : (test : PendingPacket → Bool) (ns : List Numbered)
     → map handleOf (queueOf (firstOf (asks test) alone [] ns)) ≡ firstOf test handleAlone [] (queueOf ns)
@@ -148,15 +143,13 @@ taken-handed x ns (Fails why) hs h = refl
 taken-handed x ns Fine hs h = h
 
 gives-next : (m : Move) (t : Table) (ns : List Numbered) → handed (parted m t ns .leave) ≡ givesNext m t (queueOf ns)
-gives-next (onCache c) t ns = handed-off (dropped (asks (clearedBy c)) ns)
+gives-next (onCache c) t ns = out-handed byOff (clearedBy c) ns
 gives-next (push k h) t ns = taken-handed (overflow ns) ns (ifaceCheck (k .iface)) _ (over-handed ns (isFullOf ns) refl)
 gives-next (release k) t ns =
     taken-handed (firstOut (hasKey k) ns) ns (ifaceCheck (k .iface)) _
-    (handed-way byRelease (λ h. refl) (firstOf (asks (hasKey k)) alone [] ns) ∙ one-handed (hasKey k) ns)
-gives-next purgeOrphans t ns = handed-way byOrphans (λ h. refl) (dropped (asks (orphaned t)) ns) ∙ ap (map handleOf) (dropped-map (orphaned t) ns)
-gives-next (purgeIface i) t ns =
-    taken-handed (allOut byPurge (onIface i) ns) ns (ifaceCheck i) _
-    (handed-way byPurge (λ h. refl) (dropped (asks (onIface i)) ns) ∙ ap (map handleOf) (dropped-map (onIface i) ns))
+    (handed-way byRelease (firstOf (asks (hasKey k)) alone [] ns) ∙ one-handed (hasKey k) ns)
+gives-next purgeOrphans t ns = out-handed byOrphans (orphaned t) ns
+gives-next (purgeIface i) t ns = taken-handed (allOut byPurge (onIface i) ns) ns (ifaceCheck i) _ (out-handed byPurge (onIface i) ns)
 
 -- what a run left and handed back, from any ledger on
 record FollowedFrom (moves : List Move) (t : Table) (l : Ledger) (hs : List ℕ) (d : NeighborCache) (r : PendingQueue) : Type 0 where
@@ -176,21 +169,37 @@ none-go : (test : PendingPacket → Bool) → ((p : PendingPacket) → test p �
 none-go test f [] = refl
 none-go test f (p ∷ q) = rw (f p, none-go test f q)
 
+none-handed : (test : PendingPacket → Bool) → ((p : PendingPacket) → test p ≡ false) → (q : Queue) → [] ≡ map handleOf (dropped test q)
+none-handed test f [] = refl
+none-handed test f (p ∷ q) = rw (f p) (none-handed test f q)
+
+pub listed : (hs : List ℕ) → handleList (handlesOf hs) ≡ hs
+listed hs = take-append-seam hs (drop (length hs) zeros)
+
 cleared-off : (went : Bool) (q : PendingQueue) (i : ℕ) → packets (clearedQueue went q i) ≡ kept (clearedBy (turnOff i went)) (packets q)
 cleared-off true q i = packets-of q (kept (onIface i) (packets q))
 cleared-off false q i = sym (none-go (clearedBy (turnOff i false)) (λ p. refl) (packets q))
 
+handed-off : (went : Bool) (q : PendingQueue) (i : ℕ)
+    → handleList (clearedHandles went q i) ≡ map handleOf (dropped (clearedBy (turnOff i went)) (packets q))
+unfolding droppedHandles
+handed-off true q i = listed (map handleOf (dropped (onIface i) (packets q)))
+handed-off false q i = none-handed (clearedBy (turnOff i false)) (λ p. refl) (packets q)
+
+-- what turning off leaves and hands back
+abbrev LeftBy : Bool → PendingQueue → ℕ → TurnedOff → Type 0
+LeftBy went q i x =
+    (packets (x .queue) ≡ kept (clearedBy (turnOff i went)) (packets q)) × (handleList (x .handles) ≡ map handleOf (dropped (clearedBy (turnOff i went)) (packets q)))
+
 turned-off : (x : Check) (s : Slaac) (t : IfaceAddrs) (r : Routes) (c : NeighborCache) (q : PendingQueue) (i : ℕ)
-    → packets (offBy x s t r c q i .queue) ≡ kept (clearedBy (turnOff i (wentBy x (s .on) (clearAddrs t .any)))) (packets q)
+    → LeftBy (wentBy x (s .on) (clearAddrs t .any)) q i (offBy x s t r c q i)
 unfolding offNow
-turned-off (Fails why) s t r c q i = cleared-off false q i
+turned-off (Fails why) s t r c q i = (cleared-off false q i, handed-off false q i)
 turned-off Fine s t r c q i = go (s .on)
   where
-    go : (b : Bool)
-        → packets (cond {A = TurnedOff} b (offNow t r c q i) (record { slaac = s; addrs = t; routes = r; cache = c; queue = q; outcome = Done }) .queue)
-        ≡ kept (clearedBy (turnOff i (cond b (clearAddrs t .any) false))) (packets q)
-    go true = cleared-off (clearAddrs t .any) q i
-    go false = cleared-off false q i
+    go : (b : Bool) → LeftBy (cond b (clearAddrs t .any) false) q i (cond {A = TurnedOff} b (offNow t r c q i) (leftAlone s t r c q Done))
+    go true = (cleared-off (clearAddrs t .any) q i, handed-off (clearAddrs t .any) q i)
+    go false = (cleared-off false q i, handed-off false q i)
 
 pushed-to : (x : Check) (q : PendingQueue) (p : PendingPacket) → packets (pushBy x q p .queue) ≡ queueBy x (packets q) (pushList queueRoom p (packets q))
 pushed-to (Fails why) q p = refl
@@ -217,9 +226,6 @@ released-to Fine q k = go (anyOf (hasKey k) (packets q)) refl
     go true e = packets-of q (atFirst (hasKey k) gone [] (packets q))
     go false e = none-first (hasKey k) (packets q) e
 
-listed : (hs : List ℕ) → handleList (handlesOf hs) ≡ hs
-listed hs = take-append-seam hs (drop (length hs) zeros)
-
 purged-to : (x : Check) (q : PendingQueue) (goes : PendingPacket → Bool)
     → (packets (purgeBy x q goes .queue) ≡ queueBy x (packets q) (kept goes (packets q)))
     × (handleList (purgeBy x q goes .handles) ≡ unless x (map handleOf (dropped goes (packets q))))
@@ -229,12 +235,12 @@ purged-to Fine q goes = (packets-of q (kept goes (packets q)), listed (map handl
 
 stepped : {c : NeighborCache} {q : PendingQueue} {m : Move} {hs : List ℕ} {d : NeighborCache} {r : PendingQueue} → Step c q m hs d r → Stepped c q m hs d r
 stepped (on-cache c q call a d e h) =
-    record { cache = cache-follows h .1; queue = sym (none-go (clearedBy call) e (packets q)); gives = refl }
+    record { cache = cache-follows h .1; queue = sym (none-go (clearedBy call) e (packets q)); gives = none-handed (clearedBy call) e (packets q) }
 stepped (turns-off c q s t r i x h) =
     record {
       cache = cache-follows (cache-off c s t r q i x h) .1;
-      queue = ap (λ (w : TurnedOff). packets (w .queue)) (h .is) ∙ turned-off (ifaceCheck i) s t r c q i;
-      gives = refl;
+      queue = ap (λ (w : TurnedOff). packets (w .queue)) (h .is) ∙ turned-off (ifaceCheck i) s t r c q i .0;
+      gives = ap (λ (w : TurnedOff). handleList (w .handles)) (h .is) ∙ turned-off (ifaceCheck i) s t r c q i .1;
     }
 stepped (pushes c q i a g r h) =
     record { cache = refl; queue = ap (λ (w : Pushed). packets (w .queue)) (h .is) ∙ pushed-to (ifaceCheck i) q (packet (key i a) g); gives = h .gives }
@@ -274,7 +280,7 @@ one-step c q m hs d r moves gs e s l st eq rest =
       queue = f .queue;
       handles =
           f .handles
-          ∙ ap (λ (x : List ℕ). x ++ gs) (handed-append (l .left) (parted m (entries c) (l .waiting) .leave))
+          ∙ ap (λ (x : List ℕ). x ++ gs) (map-append handleLeft (l .left) (parted m (entries c) (l .waiting) .leave))
           ∙ append-assoc (handed (l .left)) (handed (parted m (entries c) (l .waiting) .leave)) gs
           ∙ ap (λ (x : List ℕ). handed (l .left) ++ (x ++ gs))
           (gives-next m (entries c) (l .waiting) ∙ ap (givesNext m (entries c)) (sym eq) ∙ sym (st .gives));

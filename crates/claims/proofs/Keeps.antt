@@ -6,7 +6,7 @@ use mathlib.Core.Path.{_≡_, refl, sym, subst}
 use Rattle.claims.specs.Early.{Host, HostCall, advertise, poll, addAddr, addRoute, turnOff, Step, advertised, polled, polled-at, restarted, turned-on, addr-added, route-added, turned-off, polled-elsewhere, polled-at-elsewhere, off-elsewhere, Run, none, one-more, TakesPoll, Takes}
 use Rattle.claims.specs.Lists.{All}
 use Rattle.autoconf.specs.AdvertRules.{messageCheck, steps2to4, messageBy, callBy}
-use Rattle.autoconf.specs.OffRules.{offNow, offBy}
+use Rattle.autoconf.specs.OffRules.{offNow, leftAlone, offBy}
 use Rattle.autoconf.specs.PollRules.{syncTurn, turnOf, senderIn, pollOn, pollBy}
 use Rattle.autoconf.specs.SyncRules.{syncAddrs, syncRoutes}
 use Rattle.autoconf.specs.declared.AdvertAnswer.the-variants.{Off}
@@ -134,7 +134,7 @@ module _ (P : Slaac → IfaceAddrs → Routes → Type 0) where
   off-keeps Fine s t r c q i f h = go (s .on)
     where
       after : Bool → TurnedOff
-      after b = cond b (offNow t r c q i) (record { slaac = s; addrs = t; routes = r; cache = c; queue = q; outcome = Done })
+      after b = cond b (offNow t r c q i) (leftAlone s t r c q Done)
 
       go : (b : Bool) → P (after b .slaac) (after b .addrs) (after b .routes)
       go true = f

@@ -45,3 +45,4 @@ pub mod Follows
 pub mod Orphans
 pub mod Ways
 pub mod Packets
+pub mod Counts

@@ -249,7 +249,7 @@ turned-off s t r c q iface x h =
     refuses (ifaceRows iface) (outcomeNumber (x .outcome)) (NotTurnedOff s t r c q x) (h .number)
     (λ why e.
     let is : x ≡ offBy (Refused why) s t r c q iface = h .is ∙ ap (λ (y : Check). offBy y s t r c q iface) e in
-    subst (NotTurnedOff s t r c q) (sym is) (refl, refl, refl, refl, refl))
+    subst (NotTurnedOff s t r c q) (sym is) (refl, refl, refl, refl, refl, refl))
 
 -- an advertisement
 

@@ -29,3 +29,4 @@ pub mod Order
 pub mod Refusals
 pub mod Determined
 pub mod Packets
+pub mod Counts

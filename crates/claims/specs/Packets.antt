@@ -152,7 +152,7 @@ firstOut test ns = record { stay = atFirst (asks test) nobody [] ns; leave = map
 abbrev pub allOut : Way → (PendingPacket → Bool) → List Numbered → Parted
 allOut way test ns = record { stay = kept (asks test) ns; leave = map (departs way) (dropped (asks test) ns) }
 
--- "if an address went, the interface's neighbours and waiting packets are cleared, no handle returned"; no other call on the cache touches a packet
+-- "if an address went, the interface's neighbours and waiting packets are cleared"; no other call on the cache touches a packet
 abbrev pub clearedBy : Call → PendingPacket → Bool
 clearedBy (lookup k) p = false
 clearedBy (start k) p = false
@@ -196,21 +196,17 @@ ledgerAfter (m ∷ moves) t l = ledgerAfter moves (tableNext m t) (ledgerNext m 
 abbrev pub ledger : List Move → Table → Queue → Ledger
 ledger moves t q = ledgerAfter moves t (opened q)
 
--- The handles that come back: of every departure but those by turning SLAAC off
+-- The handles that come back: of every departure, by turning SLAAC off too, "whose purge now returns its handles like the others" (request 2026-10)
 
-abbrev pub handedBy : Way → ℕ → List ℕ
-handedBy byRelease h = h ∷ []
-handedBy byOverflow h = h ∷ []
-handedBy byOrphans h = h ∷ []
-handedBy byPurge h = h ∷ []
-handedBy byOff h = []
+abbrev pub handleLeft : Departure → ℕ
+handleLeft d = handleOf (d .who .packet)
 
 abbrev pub handed : List Departure → List ℕ
-handed [] = []
-handed (d ∷ ds) = handedBy (d .way) (handleOf (d .who .packet)) ++ handed ds
+handed ds = map handleLeft ds
 
 -- Runs of the code's own calls
 
+-- the handles that an answer holds: past its count are zeros, and 0 is a handle too
 abbrev pub handleList : Handles → List ℕ
 handleList hs = take (hs .len) (hs .slots)
 
@@ -220,7 +216,7 @@ pub data Step : NeighborCache → PendingQueue → Move → List ℕ → Neighbo
   on-cache : (c : NeighborCache) (q : PendingQueue) (call : Call) (a : Answer) (d : NeighborCache) → ((p : PendingPacket) → clearedBy call p ≡ false) → CacheStep c call a d
       → Step c q (onCache call) [] d q
   turns-off : (c : NeighborCache) (q : PendingQueue) (s : Slaac) (t : IfaceAddrs) (r : Routes) (i : ℕ) (x : TurnedOff) → TurnedOffTo s t r c q i x
-      → Step c q (onCache (turnOff i (wentIn s t i))) [] (x .cache) (x .queue)
+      → Step c q (onCache (turnOff i (wentIn s t i))) (handleList (x .handles)) (x .cache) (x .queue)
   pushes : (c : NeighborCache) (q : PendingQueue) (i : ℕ) (a : Ipv6Addr) (h : ℕ) (r : Pushed) → PushedTo q i a h r
       → Step c q (push (key i a) h) (pushedOut (r .answer)) c (r .queue)
   releases : (c : NeighborCache) (q : PendingQueue) (i : ℕ) (a : Ipv6Addr) (r : Released) → ReleasedTo q i a r
@@ -456,11 +452,11 @@ pub record Packets : Type 0 where
   pub stale-back : purgedAfter answeredCalls .left ≡ departs byOrphans report ∷ []
   -- one that fails: it comes back
   pub failed-back : purgedAfter failingCalls .left ≡ departs byOrphans report ∷ []
-  -- one whose report is released, and one whose interface is purged, or cleared by turning SLAAC off: then no handle comes back
+  -- one whose report is released, and one whose interface is purged, or cleared by turning SLAAC off
   pub release-back : ledger (queued ++ (release (neighbour 1) ∷ [])) [] [] .left ≡ departs byRelease report ∷ []
   pub purge-back : ledger (queued ++ (purgeIface 0 ∷ [])) [] [] .left ≡ departs byPurge report ∷ []
-  pub off-gone : ledger (queued ++ (onCache (turnOff 0 true) ∷ [])) [] [] .left ≡ departs byOff report ∷ []
-  pub off-silent : handed (ledger (queued ++ (onCache (turnOff 0 true) ∷ [])) [] [] .left) ≡ []
+  pub off-back : ledger (queued ++ (onCache (turnOff 0 true) ∷ [])) [] [] .left ≡ departs byOff report ∷ []
+  pub off-handed : handed (ledger (queued ++ (onCache (turnOff 0 true) ∷ [])) [] [] .left) ≡ 7 ∷ []
   -- A neighbour entry pushed out with a report queued on it: the entry is gone, the report waits, and the next purge of orphans hands it back.
   pub pushed-out : entriesOf (neighbour 16) (tableAfter (callsOf evicting) []) ≡ []
   pub still-waits : ledger evicting [] [] .waiting ≡ evictedReport ∷ []

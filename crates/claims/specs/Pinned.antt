@@ -1,5 +1,5 @@
--- The numbers and bits of document 01 up to the event program, and of request 2026-02, computed: a definition with another number, bit or case in it fails here or in
--- `Examples`, `Traces`, `Lasting`, `Endless`, `Wake`, which compute values too. Assumes nothing.
+-- The numbers and bits of document 01 up to the event program, and of requests 2026-02 and 2026-10, computed: a definition with another number, bit or case in it fails here or in
+-- `Examples`, `Traces`, `Lasting`, `Endless`, `Wake`, `Counts`, which compute values too. Assumes nothing.
 use Prim.Native.Nat.{ℕ, zero, suc, _+_, _-_, _*_, _^_}
 use mathlib.Core.Path.{_≡_}
 use mathlib.Core.Bool.{Bool, true, false}
@@ -459,6 +459,9 @@ pub record Pinned : Type 0 where
   pub off-purges : packets (offFrom (end .addrs) .queue) ≡ []
   pub off-leaves : entries (offFrom addresses .cache) ≡ holding Started
   pub off-keeps : packets (offFrom addresses .queue) ≡ queued 1
+  -- request 2026-10: "whose purge now returns its handles like the others"; past the count are zeros
+  pub off-returns : offFrom (end .addrs) .handles ≡ record { slots = 1 ∷ 0 ∷ 0 ∷ 0 ∷ 0 ∷ 0 ∷ 0 ∷ 0 ∷ []; len = 1 }
+  pub off-returns-none : offFrom addresses .handles ≡ record { slots = 0 ∷ 0 ∷ 0 ∷ 0 ∷ 0 ∷ 0 ∷ 0 ∷ 0 ∷ []; len = 0 }
   pub off-forgets : offFrom (end .addrs) .slaac ≡ fresh false
   pub off-each : addrsOf (offFrom (withAddrs emptyAddrs (formedIn 1 ∷ manualAddr (net 2) ∷ formedIn 3 ∷ [])) .addrs) ≡ manualAddr (net 2) ∷ []
   pub off-each-route : clearRoutes 0 (slaacRoute 0 router (ms 5) ∷ slaacRoute 1 router (ms 5) ∷ manualRoute 0 network router ∷ slaacRoute 0 (routerNo 2) (ms 5) ∷ [])

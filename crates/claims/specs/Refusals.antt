@@ -129,9 +129,9 @@ Unswept c k c' k' events = (c' ≡ c) × (k' ≡ k) × (eventList events ≡ [])
 abbrev pub Unpolled : Slaac → IfaceAddrs → Routes → Clock → List ℕ → Polled → Clock → List ℕ → Type 0
 Unpolled s t r k buf p k' buf' = (p .slaac ≡ s) × (p .addrs ≡ t) × (p .routes ≡ r) × (k' ≡ k) × (buf' ≡ buf)
 
--- turning SLAAC off: all five tables
+-- turning SLAAC off: all five tables; and no handle comes back
 abbrev pub NotTurnedOff : Slaac → IfaceAddrs → Routes → NeighborCache → PendingQueue → TurnedOff → Type 0
-NotTurnedOff s t r c q x = (x .slaac ≡ s) × (x .addrs ≡ t) × (x .routes ≡ r) × (x .cache ≡ c) × (x .queue ≡ q)
+NotTurnedOff s t r c q x = (x .slaac ≡ s) × (x .addrs ≡ t) × (x .routes ≡ r) × (x .cache ≡ c) × (x .queue ≡ q) × (x .handles .len ≡ 0)
 
 -- Rows that fail, one call for each number, in the table's order
 
