@@ -215,7 +215,8 @@ pub trait Side {
     fn link(&mut self, iface: u8, up: bool) -> Result<(), Refused>;
     fn restart(&mut self, iface: u8) -> Result<(), Refused>;
     fn turn_on(&mut self, iface: u8) -> Result<(), Refused>;
-    fn turn_off(&mut self, iface: u8) -> Result<(), Refused>;
+    /// The handles of the packets that went.
+    fn turn_off(&mut self, iface: u8) -> Result<Vec<u32>, Refused>;
     /// False for Off.
     fn advertise(&mut self, iface: u8, source: Addr, now: u64, message: &[u8]) -> Result<bool, Refused>;
     /// `room`: the bytes of the lent buffer. The clock's deadline afterwards. The clock is not the one that is held.
@@ -714,7 +715,7 @@ fn call(side: &mut dyn Side, line: &[u8]) -> Result<Result<String, Refused>, Bad
         "off" => {
             let iface = f.small()?;
             f.end()?;
-            side.turn_off(iface).map(ok)
+            side.turn_off(iface).map(|h| handles(&h))
         }
         "ra" => {
             let (iface, source, now, message) = (f.small()?, f.addr()?, f.number()?, f.bytes()?);

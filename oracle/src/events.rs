@@ -213,7 +213,9 @@ impl Host<'_> {
                 let addr = text::fixed(addr).ok_or(Bad)?;
                 self.world.remove(0, addr);
             }
-            [b"off"] => self.world.turn_off(0),
+            [b"off"] => {
+                self.world.turn_off(0);
+            }
             _ => return Err(Bad),
         }
         Ok(())

@@ -2,6 +2,7 @@
 //! 64-bit times) around the real code, and the tools that use it.
 
 pub mod calls;
+pub mod counts;
 pub mod events;
 pub mod folder;
 pub mod generate;

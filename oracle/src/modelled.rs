@@ -289,9 +289,8 @@ impl Side for Modelled {
         Ok(())
     }
 
-    fn turn_off(&mut self, iface: u8) -> Result<(), Refused> {
-        self.0.turn_off(known(iface)?);
-        Ok(())
+    fn turn_off(&mut self, iface: u8) -> Result<Vec<u32>, Refused> {
+        Ok(self.0.turn_off(known(iface)?))
     }
 
     fn advertise(&mut self, iface: u8, source: Addr, now: u64, message: &[u8]) -> Result<bool, Refused> {

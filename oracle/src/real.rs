@@ -448,10 +448,8 @@ impl Side for Real {
         Ok(())
     }
 
-    fn turn_off(&mut self, iface: u8) -> Result<(), Refused> {
-        self.world.turn_off(known(iface)?);
-        self.world.dropped();
-        Ok(())
+    fn turn_off(&mut self, iface: u8) -> Result<Vec<u32>, Refused> {
+        Ok(self.world.turn_off(known(iface)?))
     }
 
     fn advertise(&mut self, iface: u8, source: Addr, now: u64, message: &[u8]) -> Result<bool, Refused> {

@@ -26,6 +26,7 @@ mod bad;
 mod deadlines;
 mod looked;
 mod masked;
+mod off;
 mod options;
 mod tables;
 mod turns;
@@ -114,7 +115,7 @@ pub const ANSWERS: &[(&str, &[&str])] = &[
     ("link", &["ok", "refused 7", "bad line"]),
     ("restart", &["ok", "refused 7", "bad line"]),
     ("on", &["ok", "refused 7", "bad line"]),
-    ("off", &["ok", "refused 7", "bad line"]),
+    ("off", &["dropped 0", "dropped 1 *", "dropped 3 *", "dropped 8 *", "refused 7", "bad line"]),
     ("ra", &["ok", "off", "refused 3", "refused 7", "refused 5", "refused 6", "refused 1", "bad line"]),
     (
         "poll",
@@ -463,6 +464,7 @@ pub fn all() -> Vec<Scene> {
         // Behind all others, which keep their numbers.
         looked::looked(),
         masked::masked(),
+        off::off(),
     ];
     groups.into_iter().flatten().collect()
 }

@@ -817,15 +817,21 @@ impl Model {
         }
     }
 
-    pub fn turn_off(&mut self, iface: usize) {
+    /// The handles of the packets that went, in queue order.
+    pub fn turn_off(&mut self, iface: usize) -> Vec<u32> {
+        let waits = self.packets.iter().any(|p| p.iface == iface);
         if self.ifaces[iface].slaac.is_none() {
             mark!("off.again");
-            return;
+            if waits {
+                mark!("calls.off-again-keeps-packets");
+            }
+            return Vec::new();
         }
         mark!("off.first");
         self.ifaces[iface].slaac = None;
         let before = self.ifaces[iface].addrs.len();
         self.ifaces[iface].addrs.retain(|a| !a.slaac);
+        let mut gone = Vec::new();
         if self.ifaces[iface].addrs.len() < before {
             mark!("off.address-gone");
             if self.neighbours.iter().any(|n| n.iface == iface) {
@@ -834,16 +840,26 @@ impl Model {
             if self.neighbours.iter().any(|n| n.iface != iface) {
                 mark!("calls.off-keeps-other-neighbours");
             }
-            if self.packets.iter().any(|p| p.iface == iface) {
-                mark!("calls.off-drops-packets");
+            for packet in &self.packets {
+                match packet.iface == iface {
+                    true => gone.push(packet.handle),
+                    false => mark!("calls.off-keeps-other-packets"),
+                }
             }
-            if self.packets.iter().any(|p| p.iface != iface) {
-                mark!("calls.off-keeps-other-packets");
+            match gone[..] {
+                [] => mark!("calls.off-returns-none"),
+                [_] => mark!("calls.off-returns"),
+                _ => mark!("calls.off-returns-several"),
             }
             self.neighbours.retain(|n| n.iface != iface);
             self.packets.retain(|p| p.iface != iface);
-        } else if self.neighbours.iter().any(|n| n.iface == iface) {
-            mark!("off.no-address-keeps-neighbours");
+        } else {
+            if self.neighbours.iter().any(|n| n.iface == iface) {
+                mark!("off.no-address-keeps-neighbours");
+            }
+            if waits {
+                mark!("calls.off-keeps-packets");
+            }
         }
         if self.routes.iter().any(|r| r.slaac && r.iface == iface) {
             mark!("off.route-gone");
@@ -855,6 +871,7 @@ impl Model {
             mark!("calls.off-keeps-application-routes");
         }
         self.routes.retain(|r| !(r.slaac && r.iface == iface));
+        gone
     }
 
     pub fn advertise(&mut self, iface: usize, now: u64, source: Addr, message: &[u8]) -> Answer<()> {

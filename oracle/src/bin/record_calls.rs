@@ -7,7 +7,7 @@ use std::process::exit;
 
 use oracle::calls::{self, Modelled, Real, Side};
 use oracle::events::LINE;
-use oracle::folder;
+use oracle::{counts, folder};
 use oracle::generate::{self, Reach};
 use oracle::scenes::{self, Scene};
 
@@ -107,6 +107,9 @@ impl Record {
             Some(rule) if !scene.outside => stop(&format!("{}: {rule}", scene.name)),
             None if scene.outside => stop(&format!("{}: nothing of it is outside the Rust's range", scene.name)),
             _ => {}
+        }
+        if let Some((line, why)) = counts::check(&calls::split(&scene.text), &answers) {
+            stop(&format!("{}: line {}: {why}", scene.name, line + 1))
         }
         self.number += 1;
         self.by_model += usize::from(outside.is_some());

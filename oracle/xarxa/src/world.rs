@@ -435,11 +435,13 @@ impl World {
         self.stack.iface(handle).set_slaac(Some(SlaacConfig::default())).unwrap();
     }
 
-    pub fn turn_off(&mut self, iface: usize) {
+    /// The handles of the packets that went come back in the order in which they were dropped. The real call returns nothing.
+    pub fn turn_off(&mut self, iface: usize) -> Vec<u32> {
         let handle = IfaceHandle::new(iface);
         let odd = self.odd_address(iface);
         let stack = &mut self.stack;
         past_filter(odd, || stack.iface(handle).set_slaac(None).unwrap());
+        driver::take_dropped()
     }
 
     pub fn is_on(&self, iface: usize) -> bool {
@@ -661,7 +663,7 @@ impl World {
         self.stack.inner.pending.probe_packets().map(entry).collect()
     }
 
-    /// Handles dropped outside a queue call (turning SLAAC off).
+    /// The handles of the packets that the world before this one held.
     pub fn dropped(&mut self) -> Vec<u32> {
         driver::take_dropped()
     }

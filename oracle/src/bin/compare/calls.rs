@@ -7,7 +7,7 @@ use std::process::exit;
 use std::time::Instant;
 
 use oracle::calls::{Modelled, Real, answer_bytes, split};
-use oracle::generate;
+use oracle::{counts, generate};
 
 use super::{Other, Sum, files, print_rules, stop};
 
@@ -146,6 +146,15 @@ impl Calls {
         parting(&left.answers, &right)
     }
 
+    /// Whether the five counts of each handle add up, of the right side's answers. Says where not.
+    fn adds_up(&self, lines: &[Vec<u8>], answers: &[String], name: &str) -> bool {
+        let fails = counts::check(lines, answers);
+        if let Some((line, why)) = &fails {
+            say!("{name}: line {}: {why}    ({})", line + 1, self.sides().1);
+        }
+        fails.is_none()
+    }
+
     /// Fewer lines that still differ. The first, which is `new` as a rule, stays.
     fn shrink(&self, lines: &[Vec<u8>]) -> Vec<Vec<u8>> {
         let mut best = lines.to_vec();
@@ -217,7 +226,13 @@ impl Calls {
                 outside += u64::from(ours.iter().any(|a| a.is_none()));
                 compared += ours.iter().flatten().count() as u64;
                 match parting(ours, theirs) {
-                    None => equal += 1,
+                    None if self.adds_up(sequence, theirs, &format!("sequence {seed} {n}")) => equal += 1,
+                    None => {
+                        differ += 1;
+                        if !all {
+                            break;
+                        }
+                    }
                     Some(difference) => {
                         differ += 1;
                         self.report(kept, seed, n, sequence, &lines[..end], &difference);
@@ -303,6 +318,7 @@ impl Calls {
                             self.keep(folder, &name, &lines_of(&input), false);
                         }
                     }
+                    (None, _) if !self.adds_up(&lines_of(&input), &right, &format!("differs {name}")) => sum.differ += 1,
                     (None, Some((line, rule))) => {
                         sum.outside += 1;
                         say!("outside {name}: {rule} (line {line})");
