@@ -9,6 +9,7 @@ use Rattle.claims.proofs.Counts.{counts}
 use Rattle.claims.proofs.Demand3.{demand3}
 use Rattle.claims.proofs.Determined.{determined}
 use Rattle.claims.proofs.Early.{not-early}
+use Rattle.claims.proofs.EitherOrder.{either-order}
 use Rattle.claims.proofs.Endless.{endless}
 use Rattle.claims.proofs.Examples.{examples}
 use Rattle.claims.proofs.Housed.{housed}
@@ -43,6 +44,7 @@ claims = record {
   keys-once = keys-once;
   accounted = accounted;
   counts = counts;
+  either-order = either-order;
   addresses-once = addresses-once;
   forward = forward-law;
   clocks = clocks;

@@ -81,7 +81,7 @@ release-balanced h Fine q k = go (anyOf (hasKey k) (packets q))
 abbrev Parts : ℕ → PendingQueue → List ℕ → PendingQueue → Type 0
 Parts h q hs r = waiting h (packets q) ≡ countOf h hs + waiting h (packets r)
 
-goes-parts : (h : ℕ) (q : PendingQueue) (goes : PendingPacket → Bool)
+pub goes-parts : (h : ℕ) (q : PendingQueue) (goes : PendingPacket → Bool)
     → Parts h q (handleList (handlesOf (droppedHandles goes (packets q)))) (withPackets q (kept goes (packets q)))
 goes-parts h q goes =
     omega (

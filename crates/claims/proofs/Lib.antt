@@ -46,3 +46,7 @@ pub mod Orphans
 pub mod Ways
 pub mod Packets
 pub mod Counts
+pub mod Same
+pub mod SameCards
+pub mod NoCallTells
+pub mod EitherOrder

@@ -20,6 +20,7 @@ use Rattle.neighbor.proofs.Keys.{and-true}
 use Rattle.slaac.specs.ExpiryRules.{routerGone}
 use Rattle.slaac.specs.LearnedRules.{isRouter}
 use Rattle.slaac.specs.declared.Router.{Router}
+use Rattle.table.proofs.Kept.{dropped-apart}
 use Rattle.table.specs.Table.{ifRoom, atFirst, anyOf, foldOver, kept, dropped}
 use Rattle.time.specs.ClockRules.{isAfter}
 use Rattle.time.specs.declared.Expiry.the-variants.{At}
@@ -85,14 +86,6 @@ module _ {A : Type 0} (seen : A → Bool) where
       go : (b : Bool) → test x ≡ b → dropped seen (atFirst test f new xs) ≡ dropped seen xs
           → dropped seen (cond b (f x ++ xs) (x ∷ atFirst test f new xs)) ≡ dropped seen (x ∷ xs)
       go true e ih = dropped-append (f x) xs ∙ (ap (λ (l : List A). l ++ dropped seen xs) (m x e) ∙ sym (dropped-append (x ∷ []) xs))
-      go false e ih = ap (λ (l : List A). cond (seen x) (x ∷ l) l) ih
-
-  kept-apart : (test : A → Bool) → ((x : A) → test x ≡ true → seen x ≡ false) → (xs : List A) → dropped seen (kept test xs) ≡ dropped seen xs
-  kept-apart test m [] = refl
-  kept-apart test m (x ∷ xs) = go (test x) refl (kept-apart test m xs)
-    where
-      go : (b : Bool) → test x ≡ b → dropped seen (kept test xs) ≡ dropped seen xs → dropped seen (cond b (kept test xs) (x ∷ kept test xs)) ≡ dropped seen (x ∷ xs)
-      go true e ih = rw (m x e) ih
       go false e ih = ap (λ (l : List A). cond (seen x) (x ∷ l) l) ih
 
   kept-none : (test : A → Bool) → ((x : A) → test x ≡ false → seen x ≡ false) → (xs : List A) → length (dropped seen (kept test xs)) ≤ 0
@@ -175,7 +168,7 @@ module _ (i : ℕ) (via : Ipv6Addr) where
 
   pub clear-apart : (j : ℕ) → (j ≡ i → ⊥) → (es : List Route) → ours (clearRoutes j es) ≡ ours es
   unfolding clearRoutes
-  clear-apart j n es = kept-apart (isInstalled i via) (isLearned j) (λ x e. go x e (isInstalled i via x) refl) es
+  clear-apart j n es = dropped-apart (isLearned j) (isInstalled i via) es (λ x e. go x e (isInstalled i via x) refl)
     where
       go : (x : Route) → isLearned j x ≡ true → (b : Bool) → isInstalled i via x ≡ b → b ≡ false
       go x e true q = absurd (n (sym (eqb-true (x .iface) j (and-true (isSlaac (x .origin)) (eqb (x .iface) j) e .1)) ∙ installed-here i via x q))

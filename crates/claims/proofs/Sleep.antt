@@ -1,8 +1,7 @@
 -- A card that settled sleeps until `wake`. Assumes nothing.
 use Prim.Native.Nat.{ℕ, zero, suc}
 use lib.Dec.{ltb}
-use lib.ListN.{length, take, drop, set}
-use lib.Seq.{drop-append-seam}
+use lib.ListN.{length, take, set}
 use mathlib.Core.Bool.{Bool, true, false, cond}
 use mathlib.Core.List.{List, [], _∷_, _++_, map}
 use mathlib.Core.Logic.{inl}
@@ -57,7 +56,7 @@ use Rattle.slaac.specs.declared.Slaac.{Slaac}
 use Rattle.sweep.proofs.Entries.{sweep-entries, sweep-events}
 use Rattle.sweep.specs.SweepCalls.{eventList, eventsTable, sweepBy}
 use Rattle.sweep.specs.SweepRules.{sweepTable}
-use Rattle.table.proofs.Kept.{kept-law}
+use Rattle.table.proofs.Kept.{kept-law, dropped-again, filled-again}
 use Rattle.table.specs.Table.{foldOver, kept, dropped}
 use Rattle.time.specs.ClockRules.{idle}
 use Rattle.time.specs.declared.Clock.{Clock}
@@ -74,29 +73,21 @@ use Rattle.wire.specs.declared.ipv6.Ipv6Addr.{Ipv6Addr}
 
 -- ---- packets: what was purged has no orphans
 
-none-dropped : (goes : PendingPacket → Bool) (ps : Queue) → dropped goes (kept goes ps) ≡ []
-none-dropped goes [] = refl
-none-dropped goes (p ∷ ps) = go (goes p) refl (none-dropped goes ps)
-  where
-    go : (x : Bool) → goes p ≡ x → dropped goes (kept goes ps) ≡ [] → dropped goes (cond x (kept goes ps) (p ∷ kept goes ps)) ≡ []
-    go true e h = h
-    go false e h = simp e h
-
 module _ (q : PendingQueue) (goes : PendingPacket → Bool) where
-  purge-queue : purgedOf (purgedOf q goes .queue) goes .queue ≡ purgedOf q goes .queue
+  pub purge-queue : purgedOf (purgedOf q goes .queue) goes .queue ≡ purgedOf q goes .queue
   unfolding purgedOf
   purge-queue =
       ap (λ (ps : Queue). withPackets (withPackets q (kept goes (packets q))) (kept goes ps)) (packets-of q (kept goes (packets q)))
       ∙ (ap (withPackets (withPackets q (kept goes (packets q)))) (kept-law .again goes (packets q)) ∙ over (kept goes (packets q)))
     where
       over : (xs : Queue) → withPackets (withPackets q xs) xs ≡ withPackets q xs
-      over xs = ap (λ (s : Queue). record { slots = xs ++ s; len = length xs }) (drop-append-seam xs (drop (length xs) (q .slots)))
+      over xs = ap (λ (s : Queue). record { slots = s; len = length xs }) (filled-again (q .slots) xs)
 
-  purge-none : purgedOf (purgedOf q goes .queue) goes .handles ≡ handlesOf []
+  pub purge-none : purgedOf (purgedOf q goes .queue) goes .handles ≡ handlesOf []
   unfolding purgedOf droppedHandles
   purge-none =
       ap (λ (ps : Queue). handlesOf (map handleOf (dropped goes ps))) (packets-of q (kept goes (packets q)))
-      ∙ ap (λ (ps : Queue). handlesOf (map handleOf ps)) (none-dropped goes (packets q))
+      ∙ ap (λ (ps : Queue). handlesOf (map handleOf ps)) (dropped-again goes (packets q))
 
 -- ---- sweeps
 

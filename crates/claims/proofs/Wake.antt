@@ -127,7 +127,7 @@ none-due now is (e ∷ t) m h =
 
 -- The slots of a cache: a sweep leaves one whose count is within them, and then its own entries change nothing of it
 
-abbrev Fits : NeighborCache → Type 0
+abbrev pub Fits : NeighborCache → Type 0
 Fits c = c .len ≤ length (c .slots)
 
 with-fits : (c : NeighborCache) (t : Table) → Fits (withEntries c t)
@@ -167,7 +167,7 @@ events-fit (suc n) i now c place h =
     go nothing g f = h
     go (happens v c' place') g f = f c' place' g
 
-swept-fits : (c : NeighborCache) (k : Clock) (i : ℕ) → Fits (sweptIn c k i .cache)
+pub swept-fits : (c : NeighborCache) (k : Clock) (i : ℕ) → Fits (sweptIn c k i .cache)
 unfolding sweptIn probeAll
 swept-fits c k i = events-fit _ i (k .now) (withEntries c (expireAll (k .now) (entries c))) 0 (with-fits c (expireAll (k .now) (entries c)))
 

@@ -4,6 +4,7 @@ use Rattle.claims.specs.Places.{Places}
 use Rattle.claims.specs.Looks.{Looks}
 use Rattle.claims.specs.Packets.{Packets}
 use Rattle.claims.specs.Counts.{Counts}
+use Rattle.claims.specs.EitherOrder.{EitherOrder}
 use Rattle.claims.specs.Demand3.{Demand3}
 use Rattle.claims.specs.Traces.{Traces}
 use Rattle.claims.specs.Caches.{OnCaches}
@@ -56,6 +57,9 @@ pub record Claims : Type 1 where
   -- And so over any calls, SLAAC turned off among them: the pushes of a handle, refused ones aside, are the times it was released, dropped as oldest, purged
   -- as orphan and purged with its interface, and the times it still waits, together.
   pub counts : Counts
+  -- Clearing two interfaces in either order leaves the same cache and queue, and turning SLAAC off on them the same routes besides; no call tells them apart.
+  -- Clearing twice, or purging orphans twice against one cache, is once; and what stays keeps its order.
+  pub either-order : EitherOrder
   -- The clock, and sleeping
   --
   -- Asking and scheduling bring a clock's deadline forward or leave it, and what was asked of and has not come is waited for.

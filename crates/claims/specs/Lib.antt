@@ -30,3 +30,5 @@ pub mod Refusals
 pub mod Determined
 pub mod Packets
 pub mod Counts
+pub mod Same
+pub mod EitherOrder

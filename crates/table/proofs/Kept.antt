@@ -1,12 +1,13 @@
 -- Laws of `kept`, for any element type. Assumes nothing.
 use Prim.Native.Nat.{ℕ, zero, suc, _+_, _≤_, _<_}
-use lib.ListN.{length, getD}
-use mathlib.Core.Bool.{Bool, true, false, cond, _||_}
+use lib.ListN.{length, getD, drop}
+use lib.Seq.{drop-append-seam}
+use mathlib.Core.Bool.{Bool, true, false, cond, _||_, not, true≢false}
 use mathlib.Core.List.{List, [], _∷_, _++_, map}
 use mathlib.Core.Path.{_≡_, refl, ap, sym, _∙_}
 use native.Mathlib.Omega.{arith}
-use Rattle.table.specs.Kept.{KeptLaw}
-use Rattle.table.specs.Table.{kept, dropped, anyOf, foldOver}
+use Rattle.table.specs.Kept.{Interleaved, none, from-first, from-second, InOrder, KeptLaw}
+use Rattle.table.specs.Table.{filled, kept, dropped, anyOf, foldOver}
 
 module _ {A : Type 0} where
   pub kept-length : (gone : A → Bool) (xs : List A) → length (kept gone xs) ≤ length xs
@@ -102,6 +103,68 @@ module _ {A : Type 0} where
       swapped false true = refl
       swapped false false = refl
 
+  pub dropped-again : (gone : A → Bool) (xs : List A) → dropped gone (kept gone xs) ≡ []
+  dropped-again gone [] = refl
+  dropped-again gone (x ∷ xs) = go (gone x) refl (dropped-again gone xs)
+    where
+      go : (b : Bool) → gone x ≡ b → dropped gone (kept gone xs) ≡ [] → dropped gone (cond b (kept gone xs) (x ∷ kept gone xs)) ≡ []
+      go true e h = h
+      go false e h = simp e h
+
+  pub dropped-apart : (gone other : A → Bool) (xs : List A) → ((x : A) → gone x ≡ true → other x ≡ false) → dropped other (kept gone xs) ≡ dropped other xs
+  dropped-apart gone other [] h = refl
+  dropped-apart gone other (x ∷ xs) h = go (gone x) refl (dropped-apart gone other xs h)
+    where
+      go : (b : Bool) → gone x ≡ b → dropped other (kept gone xs) ≡ dropped other xs
+          → dropped other (cond b (kept gone xs) (x ∷ kept gone xs)) ≡ dropped other (x ∷ xs)
+      go true e k = rw (h x e) k
+      go false e k = ap (λ (l : List A). cond (other x) (x ∷ l) l) k
+
+  kept-order : (gone : A → Bool) (xs : List A) → Interleaved (kept gone xs) (dropped gone xs) xs
+  kept-order gone [] = none
+  kept-order gone (x ∷ xs) = go (gone x) (kept-order gone xs)
+    where
+      go : (b : Bool) → Interleaved (kept gone xs) (dropped gone xs) xs
+          → Interleaved (cond b (kept gone xs) (x ∷ kept gone xs)) (cond b (x ∷ dropped gone xs) (dropped gone xs)) (x ∷ xs)
+      go true h = from-second x h
+      go false h = from-first x h
+
+  dropped-none-stays : (gone : A → Bool) (xs : List A) → anyOf (λ x. not (gone x)) (dropped gone xs) ≡ false
+  dropped-none-stays gone [] = refl
+  dropped-none-stays gone (x ∷ xs) = go (gone x) refl (dropped-none-stays gone xs)
+    where
+      go : (b : Bool) → gone x ≡ b → anyOf (λ x. not (gone x)) (dropped gone xs) ≡ false
+          → anyOf (λ x. not (gone x)) (cond b (x ∷ dropped gone xs) (dropped gone xs)) ≡ false
+      go true e h = simp (e, h)
+      go false e h = h
+
+  pub kept-in-order : (gone : A → Bool) (xs : List A) → InOrder gone xs (kept gone xs) (dropped gone xs)
+  kept-in-order gone xs = record { order = kept-order gone xs; stay = kept-none-left gone xs; go = dropped-none-stays gone xs }
+
+  interleaved-only : (gone : A → Bool) {xs ys zs : List A} → Interleaved xs ys zs → anyOf gone xs ≡ false → anyOf (λ x. not (gone x)) ys ≡ false
+      → (xs ≡ kept gone zs) × (ys ≡ dropped gone zs)
+  interleaved-only gone none h g = (refl, refl)
+  interleaved-only gone (from-first {xs = xs} {ys = ys} {zs = zs} x i) h g = go (gone x) h (λ k. interleaved-only gone i k g)
+    where
+      go : (b : Bool) → cond b true (anyOf gone xs) ≡ false → (anyOf gone xs ≡ false → (xs ≡ kept gone zs) × (ys ≡ dropped gone zs))
+          → (x ∷ xs ≡ cond b (kept gone zs) (x ∷ kept gone zs)) × (ys ≡ cond b (x ∷ dropped gone zs) (dropped gone zs))
+      go true e rest = absurd (true≢false e)
+      go false e rest = (ap (λ (l : List A). x ∷ l) (rest e .0), rest e .1)
+  interleaved-only gone (from-second {xs = xs} {ys = ys} {zs = zs} y i) h g = go (gone y) g (λ k. interleaved-only gone i h k)
+    where
+      go : (b : Bool) → cond (not b) true (anyOf (λ x. not (gone x)) ys) ≡ false
+          → (anyOf (λ x. not (gone x)) ys ≡ false → (xs ≡ kept gone zs) × (ys ≡ dropped gone zs))
+          → (xs ≡ cond b (kept gone zs) (y ∷ kept gone zs)) × (y ∷ ys ≡ cond b (y ∷ dropped gone zs) (dropped gone zs))
+      go true e rest = (rest e .0, ap (λ (l : List A). y ∷ l) (rest e .1))
+      go false e rest = absurd (true≢false e)
+
+  pub in-order-only : (gone : A → Bool) (before after went : List A) → InOrder gone before after went
+      → (after ≡ kept gone before) × (went ≡ dropped gone before)
+  in-order-only gone before after went h = interleaved-only gone (h .order) (h .stay) (h .go)
+
+  pub filled-again : (slots xs : List A) → filled (filled slots xs) xs ≡ filled slots xs
+  filled-again slots xs = ap (λ (l : List A). xs ++ l) (drop-append-seam xs (drop (length xs) slots))
+
 pub kept-map : {A B : Type 0} (gone : B → Bool) (f : A → B) (xs : List A) → kept gone (map f xs) ≡ map f (kept (λ x. gone (f x)) xs)
 kept-map gone f [] = refl
 kept-map gone f (x ∷ xs) = go (gone (f x)) (kept-map gone f xs)
@@ -137,4 +200,9 @@ kept-law =
       alike = kept-alike;
       mapped = kept-map;
       folded = kept-fold;
+      dropped-again = dropped-again;
+      dropped-apart = dropped-apart;
+      in-order = kept-in-order;
+      only = in-order-only;
+      filled-again = filled-again;
     }
