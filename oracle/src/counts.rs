@@ -55,6 +55,14 @@ fn dropped(words: &mut Words) -> Option<Option<Vec<u32>>> {
     Some(handed)
 }
 
+/// The entries of a list.
+pub(crate) fn entries(list: &str) -> Option<Vec<&str>> {
+    let mut entries = list.split("; ");
+    let count: usize = entries.next()?.parse().ok()?;
+    let entries: Vec<&str> = entries.collect();
+    (entries.len() == count).then_some(entries)
+}
+
 /// The handle of each input that is a packet, of the words behind what a turn or a run begins with.
 fn packets(words: &mut Words) -> Option<Vec<Option<u32>>> {
     let mut packets = Vec::new();
@@ -139,13 +147,7 @@ impl Counts {
     fn add_up(&self, listing: &str) -> Result<(), String> {
         let unread = || "a listing that does not read".to_string();
         let mut waits: BTreeMap<u32, u64> = BTreeMap::new();
-        let mut entries = listing.split("; ");
-        let count: usize = entries.next().and_then(|count| count.parse().ok()).ok_or_else(unread)?;
-        let packets: Vec<&str> = entries.collect();
-        if packets.len() != count {
-            return Err(unread());
-        }
-        for packet in packets {
+        for packet in entries(listing).ok_or_else(unread)? {
             let handle = packet.rsplit(' ').next().and_then(|h| h.parse().ok()).ok_or_else(unread)?;
             *waits.entry(handle).or_default() += 1;
         }

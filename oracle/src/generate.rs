@@ -1,6 +1,7 @@
 //! Event files by chance, aimed at the rules: the model runs along, so that times can be put next to the deadlines that
 //! its tables hold.
 
+use crate::orders::LISTING;
 use model::script::{Event, apply};
 use model::{Addr, Clock, LATEST, Mac, Model, Phase, State};
 
@@ -526,6 +527,11 @@ impl Maker {
         let n = self.few.min(self.neighbours.len() as u64);
         let i = self.rng.below(n);
         self.neighbours[i as usize]
+    }
+
+    /// The handle of a packet: one of a few, which repeat, or any.
+    fn handle(&mut self) -> u64 {
+        if self.rng.one_in(3) { self.rng.below(4) } else { self.rng.next() >> 32 }
     }
 
     fn hardware(&mut self) -> Mac {
@@ -1160,16 +1166,35 @@ const STYLES: &[Style] = &[
     Style::Mixed,
 ];
 
+/// The `number`th sequence of calls that is compared: each eighth clears interfaces in two orders.
+pub fn sequence(seed: u64, number: u64, reach: Reach) -> Vec<String> {
+    if number % 8 == 7 { orders(seed, number, reach) } else { calls(seed, number, reach) }
+}
+
+/// Lines that grow one by one, each answered by the model.
+struct Answered {
+    side: crate::calls::Modelled,
+    lines: Vec<String>,
+}
+
+impl Answered {
+    /// A `new`.
+    fn begun(maker: &Maker) -> Answered {
+        let mut answered = Answered { side: crate::calls::Modelled::default(), lines: Vec::new() };
+        answered.put(format!("new {:012x} {}", maker.file.mac, maker.base));
+        answered
+    }
+
+    fn put(&mut self, line: String) {
+        crate::calls::answer(&mut self.side, &line);
+        self.lines.push(line);
+    }
+}
+
 /// The `number`th sequence of calls of a seed, a line each; some do not read.
 pub fn calls(seed: u64, number: u64, reach: Reach) -> Vec<String> {
     let mut maker = Maker::new(Rng::new(seed ^ 0x6361_6c6c, number), reach);
-    let mut side = crate::calls::Modelled::default();
-    let mut lines = Vec::new();
-    let mut put = |side: &mut crate::calls::Modelled, line: String| {
-        crate::calls::answer(side, &line);
-        lines.push(line);
-    };
-    put(&mut side, format!("new {:012x} {}", maker.file.mac, maker.base));
+    let mut answered = Answered::begun(&maker);
     let style = maker.rng.of(STYLES);
     // Few addresses, so that keys meet on several interfaces; many for a full cache.
     if matches!(style, Style::Crowd) {
@@ -1177,34 +1202,75 @@ pub fn calls(seed: u64, number: u64, reach: Reach) -> Vec<String> {
     }
     if matches!(style, Style::Card) && !maker.rng.one_in(4) {
         let own = LINK_LOCAL | u128::from(model::eui64(maker.file.mac));
-        put(&mut side, format!("address 0 {own:032x} 64"));
-        put(&mut side, "link 0 up".into());
+        answered.put(format!("address 0 {own:032x} 64"));
+        answered.put("link 0 up".into());
     }
     // Some begin with a table that is full or almost.
     let crowd = if maker.rng.one_in(4) { 7 + maker.rng.below(3) } else { 0 };
     let crowd_of_routes = maker.rng.one_in(2);
     for i in 0..10 + maker.rng.below(80) {
-        maker.model = side.0.clone();
+        maker.model = answered.side.0.clone();
         let line = if i < crowd && crowd_of_routes {
             format!("routeto {} {:032x} 32 {:032x}", i % 4, 0x2001_0db8u128 << 96, LINK_LOCAL | u128::from(i))
         } else if i < crowd {
             format!("address 0 {:032x} 64", 0x2001_0db8u128 << 96 | u128::from(i))
         } else {
-            maker.call(style, side.1)
+            maker.call(style, answered.side.1)
         };
         let line = match maker.rng.below(50) {
             0 => bad_call(&mut maker.rng, &line),
             1 => other_digits(&mut maker.rng, &line),
             _ => line,
         };
-        put(&mut side, line);
+        answered.put(line);
     }
+    let mut lines = answered.lines;
     for dump in ["cache", "neighbors", "queue", "routes", "destinations", "now"] {
         lines.push(dump.into());
     }
     for iface in 0..4 {
         for dump in ["slaac", "prefixes", "routers", "addresses", "source"] {
             lines.push(format!("{dump} {iface}"));
+        }
+    }
+    lines
+}
+
+/// How an interface is cleared.
+const CLEARING: &[&[&str]] = &[&["clear", "purge"], &["purge", "clear"], &["clear"], &["purge"], &["off"], &["off"]];
+
+/// Interfaces cleared in two orders, on copies of one state: each copy begins with `new`, and the same lines make it. As a rule a third copy
+/// follows, on which one is cleared twice or orphans are purged twice.
+pub fn orders(seed: u64, number: u64, reach: Reach) -> Vec<String> {
+    let mut maker = Maker::new(Rng::new(seed ^ 0x6f72_6465, number), reach);
+    let ifaces = maker.some_interfaces();
+    let state = maker.state(&ifaces);
+    let steps = maker.steps(&ifaces);
+    // Reversed, and of four then one, two or none brought from the front to the back: never the first order.
+    let mut other = steps.clone();
+    other.reverse();
+    let by = maker.rng.below(other.len() as u64 - 1) as usize;
+    other.rotate_left(by);
+    let (again, orphans) = (vec![steps[0].clone(); 2], vec![vec!["orphans".to_string()]; 2]);
+    let mut copies = vec![steps, other];
+    match maker.rng.below(5) {
+        0 => {}
+        1 => copies.push(again),
+        2 => copies.push(orphans),
+        3 => copies.push([orphans.clone(), again, orphans].concat()),
+        // Against two caches: there the second may find some.
+        _ => copies.push(vec![orphans[0].clone(), maker.another_cache(), orphans[0].clone()]),
+    }
+    let mut lines = Vec::new();
+    for steps in copies {
+        lines.extend(state.clone());
+        for step in steps {
+            lines.extend(LISTING.map(String::from));
+            lines.extend(step);
+        }
+        lines.extend(LISTING.map(String::from));
+        for iface in &ifaces {
+            lines.extend(["slaac", "addresses"].map(|word| format!("{word} {iface}")));
         }
     }
     lines
@@ -1308,6 +1374,115 @@ impl Maker {
                 _ => self.clock_call(clock),
             },
         }
+    }
+
+    /// Interfaces to clear: as a rule two different ones; now and then one of them twice, one or both above 3, or all four.
+    fn some_interfaces(&mut self) -> Vec<u64> {
+        let one = self.rng.below(4);
+        let other = (one + 1 + self.rng.below(3)) % 4;
+        let above = |n: u64| [4, 5, 128, 255][n as usize];
+        match self.rng.below(12) {
+            0 => vec![one, one],
+            1 => vec![one, above(other)],
+            2 => vec![above(one), above(other)],
+            3 => {
+                let mut all = vec![0, 1, 2, 3];
+                all.swap(0, one as usize);
+                all
+            }
+            _ => vec![one, other],
+        }
+    }
+
+    /// A step for each: as a rule all in one way. An interface that comes twice is cleared in two ways, so that there are two orders.
+    fn steps(&mut self, ifaces: &[u64]) -> Vec<Vec<String>> {
+        let alike = if self.rng.one_in(5) { None } else { Some(self.rng.of(CLEARING)) };
+        let mut ways: Vec<&[&str]> = ifaces.iter().map(|_| alike.unwrap_or_else(|| self.rng.of(CLEARING))).collect();
+        if ifaces[0] == ifaces[1] {
+            let others: Vec<&[&str]> = CLEARING.iter().copied().filter(|way| *way != ways[0]).collect();
+            ways[1] = self.rng.of(&others);
+        }
+        let step = |(way, iface): (&&[&str], &u64)| -> Vec<String> { way.iter().map(|word| format!("{word} {iface}")).collect() };
+        ways.iter().zip(ifaces).map(step).collect()
+    }
+
+    /// Lines that make a state, much of it on these interfaces: addresses and routes of SLAAC, entries, waiting packets.
+    fn state(&mut self, ifaces: &[u64]) -> Vec<String> {
+        let mut answered = Answered::begun(self);
+        for iface in 0..4 {
+            if self.rng.one_in(3) {
+                answered.put(format!("route {iface} {:032x}", LINK_LOCAL | 1));
+            }
+            // An address and a route, one of them, or none.
+            let kind = self.rng.below(5);
+            if kind > 3 {
+                continue;
+            }
+            let mut message = vec![134, 0, 0, 0, 64, 0, 0, if kind == 0 { 0 } else { 9 }, 0, 0, 0, 0, 0, 0, 0, 0];
+            if kind < 3 {
+                message.extend([3, 4, 64, 0xc0, 0, 0, 0, 9, 0, 0, 0, 5, 0, 0, 0, 0]);
+                message.extend((0x2001_0db8u128 << 96 | u128::from(self.rng.below(3)) << 64).to_be_bytes());
+            }
+            let router = LINK_LOCAL | u128::from(1 + self.rng.below(2));
+            answered.put(format!("ra {iface} {router:032x} {} {}", self.now, crate::text::hex(&message)));
+            answered.put(format!("poll {iface} {} - 16", self.now));
+        }
+        for _ in 0..8 + self.rng.below(25) {
+            self.model = answered.side.0.clone();
+            let iface = if self.rng.one_in(3) { self.rng.below(4) } else { self.rng.of(ifaces) };
+            let line = match self.rng.below(16) {
+                0..=4 => {
+                    let handle = self.handle();
+                    format!("push {iface} {:032x} {handle}", self.neighbour())
+                }
+                5..=9 => format!("start {iface} {:032x}", self.neighbour()),
+                10..=11 => {
+                    let (addr, mac) = (self.neighbour(), self.hardware());
+                    format!("fill {iface} {addr:032x} {mac:012x} {}", self.now.min(LATEST))
+                }
+                12 => self.cache_call(iface),
+                13 => self.queue_call(iface),
+                14 => self.slaac_call(iface),
+                _ => self.call(Style::Mixed, answered.side.1),
+            };
+            let line = if self.rng.one_in(50) { bad_call(&mut self.rng, &line) } else { line };
+            answered.put(line);
+        }
+        if self.rng.one_in(3) {
+            self.full_tables(ifaces).into_iter().for_each(|line| answered.put(line));
+        }
+        answered.lines
+    }
+
+    /// Lines after which the cache and the queue are full, whatever they held: as many entries as the cache has room for, each of another key,
+    /// and as many packets as the queue has room for, one for every other entry. They are of these interfaces or any, none above 3.
+    fn full_tables(&mut self, ifaces: &[u64]) -> Vec<String> {
+        let known: Vec<u64> = ifaces.iter().copied().filter(|iface| *iface < 4).collect();
+        let first = self.rng.below(self.neighbours.len() as u64) as usize;
+        let mut lines = Vec::new();
+        for i in 0..model::NEIGHBOURS {
+            let iface = if known.is_empty() || self.rng.one_in(2) { self.rng.below(4) } else { self.rng.of(&known) };
+            let addr = self.neighbours[(first + i) % self.neighbours.len()];
+            lines.push(match self.rng.below(3) {
+                0 => format!("fill {iface} {addr:032x} {:012x} {}", self.rng.of(&self.macs), self.now.min(LATEST)),
+                _ => format!("start {iface} {addr:032x}"),
+            });
+            if i * model::PACKETS % model::NEIGHBOURS == 0 {
+                lines.push(format!("push {iface} {addr:032x} {}", self.handle()));
+            }
+        }
+        lines
+    }
+
+    /// Lines after which packets may be orphans that were none.
+    fn another_cache(&mut self) -> Vec<String> {
+        let now = (self.now + 61_000).min(LATEST);
+        let line = |maker: &mut Maker| match maker.rng.below(3) {
+            0 => format!("clear {}", maker.rng.below(4)),
+            1 => format!("sweep 0 {now} -"),
+            _ => format!("remove {} {:032x}", maker.rng.below(4), maker.neighbour()),
+        };
+        (0..1 + self.rng.below(4)).map(|_| line(self)).collect()
     }
 
     /// Near what a clock has to compare with; inside the range if it must be.
@@ -1483,7 +1658,7 @@ impl Maker {
         match self.rng.below(20) {
             0..=6 => {
                 let now = self.time(Kind::Start);
-                let handle = if self.rng.one_in(3) { self.rng.below(4) } else { self.rng.next() >> 32 };
+                let handle = self.handle();
                 format!("{now} packet {:032x} {handle}", self.neighbour())
             }
             7..=10 => {
@@ -1647,7 +1822,7 @@ impl Maker {
     fn queue_call(&mut self, iface: u64) -> String {
         match self.rng.below(20) {
             0..=7 => {
-                let handle = if self.rng.one_in(3) { self.rng.below(4) } else { self.rng.next() >> 32 };
+                let handle = self.handle();
                 format!("push {iface} {:032x} {handle}", self.neighbour())
             }
             8..=9 => format!("release {iface} {:032x}", self.neighbour()),

@@ -7,6 +7,7 @@ pub mod events;
 pub mod folder;
 pub mod generate;
 pub mod modelled;
+pub mod orders;
 pub mod range;
 pub mod real;
 pub mod scenes;

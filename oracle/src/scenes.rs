@@ -28,6 +28,7 @@ mod looked;
 mod masked;
 mod off;
 mod options;
+mod orders;
 mod tables;
 mod turns;
 mod values;
@@ -414,7 +415,7 @@ fn touched(lines: &[String]) -> Vec<u64> {
 
 /// Lines that show all that is held, of these interfaces.
 fn state(ifaces: &[u64]) -> Vec<String> {
-    let mut lines = lines!["cache", "queue", "routes"];
+    let mut lines = crate::orders::LISTING.map(String::from).to_vec();
     for iface in ifaces {
         for list in ["slaac", "prefixes", "routers", "addresses"] {
             lines.push(format!("{list} {iface}"));
@@ -465,6 +466,7 @@ pub fn all() -> Vec<Scene> {
         looked::looked(),
         masked::masked(),
         off::off(),
+        orders::orders(),
     ];
     groups.into_iter().flatten().collect()
 }

@@ -24,7 +24,7 @@ fn main() {
     let (seed, first) = (number(0), number(1));
     let reach = oracle::generate::Reach::of(wide);
     let made = |n: u64| match calls {
-        true => (oracle::generate::calls(seed, n, reach).join("\n") + "\n").into_bytes(),
+        true => (oracle::generate::sequence(seed, n, reach).join("\n") + "\n").into_bytes(),
         false => oracle::generate::file(seed, n, reach),
     };
     let end = if calls { "calls" } else { "in" };

@@ -7,9 +7,10 @@ use std::process::exit;
 
 use oracle::calls::{self, Modelled, Real, Side};
 use oracle::events::LINE;
-use oracle::{counts, folder};
 use oracle::generate::{self, Reach};
+use oracle::orders::{self, Seen};
 use oracle::scenes::{self, Scene};
+use oracle::{counts, folder};
 
 const USAGE: &str = "record-calls FOLDER [-s SEED] [-n CANDIDATES]
 
@@ -63,10 +64,16 @@ fn text(lines: &[String]) -> Vec<u8> {
     (lines.join("\n") + "\n").into_bytes()
 }
 
+/// How much of both orders there is in a call file. Stops if the answers do not hold.
+fn any_order(name: &str, text: &[u8], answers: &[String]) -> Seen {
+    orders::check(&calls::split(text), answers).unwrap_or_else(|(line, why)| stop(&format!("{name}: line {}: {why}", line + 1)))
+}
+
 /// The rules that a call file fires.
 fn fired(text: &[u8]) -> HashSet<usize> {
     model::marks::take();
-    answers(&mut Modelled::default(), text);
+    let answers = answers(&mut Modelled::default(), text);
+    any_order("by the model", text, &answers);
     let fired = model::marks::take();
     (0..fired.len()).filter(|i| fired[*i] > 0).collect()
 }
@@ -95,6 +102,7 @@ struct Record {
     by_model: usize,
     bytes: usize,
     reached: HashSet<usize>,
+    seen: Seen,
     /// The answers of `scenes::ANSWERS` that no case had so far: word and pattern.
     missing: Vec<(&'static str, &'static str)>,
 }
@@ -111,6 +119,7 @@ impl Record {
         if let Some((line, why)) = counts::check(&calls::split(&scene.text), &answers) {
             stop(&format!("{}: line {}: {why}", scene.name, line + 1))
         }
+        self.seen += any_order(&scene.name, &scene.text, &answers);
         self.number += 1;
         self.by_model += usize::from(outside.is_some());
         self.write("calls", &scene.text);
@@ -209,6 +218,7 @@ fn main() {
         by_model: 0,
         bytes: 0,
         reached: HashSet::new(),
+        seen: Seen::default(),
         missing: scenes::ANSWERS.iter().flat_map(|(word, all)| all.iter().map(|a| (*word, *a))).collect(),
     };
     for scene in scenes::all() {
@@ -269,4 +279,5 @@ fn main() {
         of_calls.len(),
         names.len()
     );
+    eprintln!("{}", record.seen);
 }

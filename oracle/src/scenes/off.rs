@@ -2,7 +2,7 @@
 
 use super::*;
 
-fn push(iface: u64, n: u64, handle: u64) -> String {
+pub(super) fn push(iface: u64, n: u64, handle: u64) -> String {
     format!("push {iface} {} {handle}", host(n))
 }
 
@@ -11,12 +11,12 @@ fn release(iface: u64, n: u64) -> String {
 }
 
 /// Interface `iface` has an address of SLAAC's.
-fn with_address(iface: u64) -> Vec<String> {
+pub(super) fn with_address(iface: u64) -> Vec<String> {
     lines![ra(iface, 1, 0, 9, &[prefix(1, 9, 5)]), format!("poll {iface} 0 - 16")]
 }
 
 /// And here a router alone.
-fn with_router(iface: u64) -> Vec<String> {
+pub(super) fn with_router(iface: u64) -> Vec<String> {
     lines![ra(iface, 1, 0, 9, &[]), format!("poll {iface} 0 - 16")]
 }
 

@@ -7,12 +7,15 @@ use std::process::exit;
 use std::time::Instant;
 
 use oracle::calls::{Modelled, Real, answer_bytes, split};
+use oracle::orders::{self, Seen};
 use oracle::{counts, generate};
 
 use super::{Other, Sum, files, print_rules, stop};
 
 /// Sequences that go into one run of the program.
 const BATCH: u64 = 2_000;
+/// Among so many sequences there must be a pair of both orders.
+const ENOUGH: u64 = 100;
 
 pub struct Calls {
     /// The model in place of the Rust.
@@ -27,6 +30,20 @@ struct Left {
     outside: Option<(usize, String)>,
 }
 
+/// What each side answers.
+struct Sides {
+    left: Left,
+    modelled: Vec<String>,
+    right: Vec<String>,
+}
+
+/// The same of some of the lines.
+struct Answers<'a> {
+    left: &'a [Option<String>],
+    modelled: &'a [String],
+    right: &'a [String],
+}
+
 /// Where two outputs part.
 struct Difference {
     /// From 0.
@@ -35,8 +52,13 @@ struct Difference {
     right: String,
 }
 
-fn lines_of(input: &[u8]) -> Vec<Vec<u8>> {
+pub fn lines_of(input: &[u8]) -> Vec<Vec<u8>> {
     split(input).into_iter().map(|l| l.to_vec()).collect()
+}
+
+/// The `n`th generated sequence.
+pub fn sequence(seed: u64, n: u64, wide: bool) -> Vec<Vec<u8>> {
+    generate::sequence(seed, n, generate::Reach::of(wide)).into_iter().map(String::into_bytes).collect()
 }
 
 fn joined(lines: &[Vec<u8>]) -> Vec<u8> {
@@ -64,10 +86,18 @@ fn rust(lines: &[Vec<u8>]) -> Left {
     left
 }
 
-/// The model's answers; it marks the rules.
+/// The model's answers. It marks the rules.
 fn model(lines: &[Vec<u8>]) -> Vec<String> {
     let mut modelled = Modelled::default();
     lines.iter().map(|line| answer_bytes(&mut modelled, line)).collect()
+}
+
+/// Holds the answers inside the Rust's range to what `orders.rs` asks.
+fn check_inside(lines: &[Vec<u8>], answers: &[Option<String>]) -> Result<Seen, orders::Wrong> {
+    let inside: Vec<usize> = (0..lines.len()).filter(|i| answers[*i].is_some()).collect();
+    let lines: Vec<&Vec<u8>> = inside.iter().map(|i| &lines[*i]).collect();
+    let answers: Vec<&String> = answers.iter().flatten().collect();
+    orders::check(&lines, &answers).map_err(|(line, why)| (inside[line], why))
 }
 
 /// The answers of an output, each with its newline.
@@ -125,24 +155,24 @@ impl Calls {
         }
     }
 
-    /// Both sides on an input.
-    fn both(&self, input: &[u8]) -> (Left, Vec<String>) {
+    /// Both sides on an input, and the model.
+    fn both(&self, input: &[u8]) -> Sides {
         let lines = lines_of(input);
         let modelled = model(&lines);
         let right = self.right(input, &modelled);
         let left = if self.wide {
             Left {
-                answers: modelled.into_iter().map(Some).collect(),
+                answers: modelled.iter().cloned().map(Some).collect(),
                 outside: None,
             }
         } else {
             rust(&lines)
         };
-        (left, right)
+        Sides { left, modelled, right }
     }
 
     fn difference(&self, input: &[u8]) -> Option<Difference> {
-        let (left, right) = self.both(input);
+        let Sides { left, right, .. } = self.both(input);
         parting(&left.answers, &right)
     }
 
@@ -153,6 +183,34 @@ impl Calls {
             say!("{name}: line {}: {why}    ({})", line + 1, self.sides().1);
         }
         fails.is_none()
+    }
+
+    /// Holds the answers of each side to what `orders.rs` asks: the Rust's inside its range, the model's, and the program's. Gives how much of it
+    /// there was on the right side. If a side fails, says which, where and why, and gives None.
+    fn any_order(&self, lines: &[Vec<u8>], answers: &Answers, name: &str) -> Option<Seen> {
+        let (l, r) = self.sides();
+        let mut held = vec![(l, check_inside(lines, answers.left))];
+        // If the model is not one of the two.
+        if ![l, r].contains(&"model") {
+            held.push(("model", orders::check(lines, answers.modelled)));
+        }
+        held.push((r, orders::check(lines, answers.right)));
+        let mut seen = None;
+        for (side, held) in held {
+            match held {
+                Ok(of_side) => seen = Some(of_side),
+                Err((line, why)) => {
+                    say!("{name}: line {}: {why}    ({side})", line + 1);
+                    return None;
+                }
+            }
+        }
+        seen
+    }
+
+    /// Adds up the counts, and then holds the answers as `any_order` does. None if either fails; it has said where.
+    fn holds(&self, lines: &[Vec<u8>], answers: &Answers, name: &str) -> Option<Seen> {
+        if self.adds_up(lines, answers.right, name) { self.any_order(lines, answers, name) } else { None }
     }
 
     /// Fewer lines that still differ. The first, which is `new` as a rule, stays.
@@ -205,19 +263,15 @@ impl Calls {
     pub fn generated(&self, seed: u64, first: u64, count: u64, kept: &Path, all: bool, rules: bool) -> i32 {
         let mut fired = vec![0u64; model::marks::names().len()];
         let (mut equal, mut differ, mut outside, mut compared) = (0u64, 0u64, 0u64, 0u64);
+        let mut seen = Seen::default();
         let began = Instant::now();
         let mut next = first;
         while next < first + count && (differ == 0 || all) {
             let upto = (next + BATCH).min(first + count);
-            let sequences: Vec<Vec<Vec<u8>>> = (next..upto)
-                .map(|n| generate::calls(seed, n, generate::Reach::of(self.wide)).into_iter().map(String::into_bytes).collect())
-                .collect();
+            let sequences: Vec<Vec<Vec<u8>>> = (next..upto).map(|n| sequence(seed, n, self.wide)).collect();
             let lines = sequences.concat();
             model::marks::take();
-            let (left, right) = self.both(&joined(&lines));
-            for (sum, n) in fired.iter_mut().zip(model::marks::take()) {
-                *sum += u64::from(n);
-            }
+            let Sides { left, modelled, right } = self.both(&joined(&lines));
             let mut at = 0;
             for (n, sequence) in (next..upto).zip(&sequences) {
                 let end = at + sequence.len();
@@ -225,14 +279,20 @@ impl Calls {
                 let theirs = &right[at.min(right.len())..end.min(right.len())];
                 outside += u64::from(ours.iter().any(|a| a.is_none()));
                 compared += ours.iter().flatten().count() as u64;
+                let answers = Answers { left: ours, modelled: &modelled[at..end], right: theirs };
                 match parting(ours, theirs) {
-                    None if self.adds_up(sequence, theirs, &format!("sequence {seed} {n}")) => equal += 1,
-                    None => {
-                        differ += 1;
-                        if !all {
-                            break;
+                    None => match self.holds(sequence, &answers, &format!("sequence {seed} {n}")) {
+                        Some(more) => {
+                            equal += 1;
+                            seen += more;
                         }
-                    }
+                        None => {
+                            differ += 1;
+                            if !all {
+                                break;
+                            }
+                        }
+                    },
                     Some(difference) => {
                         differ += 1;
                         self.report(kept, seed, n, sequence, &lines[..end], &difference);
@@ -242,6 +302,9 @@ impl Calls {
                     }
                 }
                 at = end;
+            }
+            for (sum, n) in fired.iter_mut().zip(model::marks::take()) {
+                *sum += u64::from(n);
             }
             if differ == 0 && right.len() > lines.len() {
                 say!("{} lines more than there are calls: `{}`", right.len() - lines.len(), right[lines.len()]);
@@ -253,13 +316,41 @@ impl Calls {
         let outcome = if differ == 0 { "all equal".into() } else { format!("{differ} differ") };
         let seconds = began.elapsed().as_secs_f64();
         say!("{} sequences: {compared} calls compared, {outcome}; {outside} sequences leave the Rust's range; {seconds:.1} s", equal + differ);
+        say!("{seen}");
         match (differ, compared) {
             (1.., _) => 1,
             (0, 0) => 2,
+            _ if equal >= ENOUGH && seen.pairs == 0 => {
+                say!("no pair of both orders among them: that was not compared");
+                2
+            }
             _ => {
                 print_rules(&fired, true, self.wide, rules);
                 0
             }
+        }
+    }
+
+    /// The Rust by itself, inside its range, held to what `orders.rs` asks: of generated sequences or of call files. Says how many fail. The exit
+    /// status.
+    pub fn alone(inputs: impl Iterator<Item = (String, Vec<Vec<u8>>)>) -> i32 {
+        let (mut fail, mut all, mut seen) = (0u64, 0u64, Seen::default());
+        for (name, lines) in inputs {
+            all += 1;
+            match check_inside(&lines, &rust(&lines).answers) {
+                Ok(more) => seen += more,
+                Err((line, why)) => {
+                    fail += 1;
+                    say!("{name}: line {}: {why}", line + 1);
+                }
+            }
+        }
+        say!("{seen}");
+        say!("{fail} of {all} fail");
+        match (fail, all) {
+            (1.., _) => 1,
+            (0, 0) => 2,
+            _ => 0,
         }
     }
 
@@ -285,6 +376,7 @@ impl Calls {
     /// Call files, a line each. The exit status.
     pub fn paths(&self, paths: &[PathBuf], keep: Option<&Path>, rules: bool) -> i32 {
         let mut sum = Sum::default();
+        let mut seen = Seen::default();
         sum.fired.resize(model::marks::names().len(), 0);
         for path in paths {
             let named = files(path, true).unwrap_or_else(|e| {
@@ -303,11 +395,16 @@ impl Calls {
                     }
                 };
                 model::marks::take();
-                let (left, right) = self.both(&input);
+                let Sides { left, modelled, right } = self.both(&input);
+                let lines = lines_of(&input);
+                let answers = Answers { left: &left.answers, modelled: &modelled, right: &right };
+                let parted = parting(&left.answers, &right);
+                let held = if parted.is_none() { self.holds(&lines, &answers, &format!("differs {name}")) } else { None };
+                seen += held.unwrap_or_default();
                 for (sum, n) in sum.fired.iter_mut().zip(model::marks::take()) {
                     *sum += u64::from(n);
                 }
-                match (parting(&left.answers, &right), left.outside) {
+                match (parted, left.outside) {
                     (Some(difference), _) => {
                         sum.differ += 1;
                         let (l, r) = self.sides();
@@ -315,10 +412,10 @@ impl Calls {
                         say!("differs {name}: line {}: {l} {ours}, {r} {theirs}", difference.line + 1);
                         if let Some(folder) = keep {
                             let name = file.file_name().unwrap_or_default().to_string_lossy();
-                            self.keep(folder, &name, &lines_of(&input), false);
+                            self.keep(folder, &name, &lines, false);
                         }
                     }
-                    (None, _) if !self.adds_up(&lines_of(&input), &right, &format!("differs {name}")) => sum.differ += 1,
+                    (None, _) if held.is_none() => sum.differ += 1,
                     (None, Some((line, rule))) => {
                         sum.outside += 1;
                         say!("outside {name}: {rule} (line {line})");
@@ -331,6 +428,9 @@ impl Calls {
             }
         }
         say!("{}", sum.line());
+        if seen != Seen::default() {
+            say!("{seen}");
+        }
         if rules {
             print_rules(&sum.fired, true, self.wide, true);
         }

@@ -19,6 +19,7 @@ compare [OPTION..] --calls --recorded FOLDER  the answers N.answers of FOLDER ag
   --calls-program PROGRAM  with --calls: the program on the other side, in place of target/bin/calls
   --model           the model on the other side
   --rust            the Rust on the other side: with --recorded
+  --alone           with --calls: the Rust by itself, held to both orders of clearing; how many sequences or files fail
   --wide            the model in place of the Rust, on files outside the Rust's range as well
   --rules           the rules that no file reached
   --keep FOLDER     where a file that differs is kept with a smaller one (oracle/kept; with PATH only if given)
@@ -27,7 +28,8 @@ compare [OPTION..] --calls --recorded FOLDER  the answers N.answers of FOLDER ag
   -s SEED           of the generator (1)
   --first N         the number of the first one (0)
 
-Exit status: 0 all that was compared is equal, 1 a difference, 2 usage, a path that can not be read, or nothing compared.";
+Exit status: 0 all that was compared is equal, 1 a difference, 2 usage, a path that can not be read, nothing compared, or no pair of both orders
+in 100 sequences of calls or more.";
 
 /// A line on standard output; if nobody reads it, there is nothing left to do.
 macro_rules! say {
@@ -266,7 +268,7 @@ fn main() {
     let root = Path::new(env!("CARGO_MANIFEST_DIR")).join("..");
     let (mut count, mut seed, mut first) = (10_000u64, 1u64, 0u64);
     let (mut program, mut calls_program, mut recorded, mut keep) = (None, None, None, None);
-    let (mut use_model, mut use_rust, mut wide, mut all, mut calls, mut rules) = (false, false, false, false, false, false);
+    let (mut use_model, mut use_rust, mut alone, mut wide, mut all, mut calls, mut rules) = (false, false, false, false, false, false, false);
     let mut paths = Vec::new();
     let mut args = std::env::args_os().skip(1);
     while let Some(arg) = args.next() {
@@ -280,6 +282,7 @@ fn main() {
             "--calls-program" => calls_program = Some(PathBuf::from(value())),
             "--model" => use_model = true,
             "--rust" => use_rust = true,
+            "--alone" => alone = true,
             "--wide" => wide = true,
             "--rules" => rules = true,
             "--all" => all = true,
@@ -297,6 +300,18 @@ fn main() {
     let kept = keep.clone().unwrap_or_else(|| Path::new(env!("CARGO_MANIFEST_DIR")).join("kept"));
     if use_rust && recorded.is_none() || use_model && (wide || use_rust) {
         usage()
+    }
+    if alone {
+        if !calls || wide || use_model || recorded.is_some() {
+            usage()
+        }
+        exit(if paths.is_empty() {
+            Calls::alone((first..first + count).map(|n| (format!("sequence {seed} {n}"), calls::sequence(seed, n, false))))
+        } else {
+            let named = paths.iter().flat_map(|path| files(path, true).unwrap_or_else(|e| stop(&format!("{}: {e}", path.display()))));
+            let read = |file: &PathBuf| fs::read(file).unwrap_or_else(|e| stop(&format!("{}: {e}", file.display())));
+            Calls::alone(named.map(|file| (file.display().to_string(), calls::lines_of(&read(&file)))))
+        })
     }
     let root = root.canonicalize().unwrap_or(root);
     let (name, option, program) = match calls {
