@@ -10,7 +10,7 @@ use native.Mathlib.Omega.{arith}
 use Rattle.autoconf.specs.OffRules.{TurnedOffTo, turnedOff, clearedCache, clearedQueue, clearedHandles, offNow, leftAlone, offBy}
 use Rattle.autoconf.specs.declared.TurnedOff.{TurnedOff}
 use Rattle.claims.proofs.Counts.{goes-parts}
-use Rattle.claims.proofs.Lists.{entries-with}
+use Rattle.claims.proofs.Lists.{entries-with, twice-slots, twice-count}
 use Rattle.claims.proofs.NoCallTells.{no-call-tells}
 use Rattle.claims.proofs.Same.{given}
 use Rattle.claims.proofs.Sleep.{purge-queue, purge-none}
@@ -36,7 +36,7 @@ use Rattle.pending.specs.declared.PendingQueue.{PendingQueue}
 use Rattle.pending.specs.declared.Purged.{Purged}
 use Rattle.slaac.specs.DiscoveryRules.{fresh}
 use Rattle.slaac.specs.declared.Slaac.{Slaac}
-use Rattle.table.proofs.Kept.{kept-again, kept-either, dropped-apart, kept-in-order, in-order-only, filled-again}
+use Rattle.table.proofs.Kept.{kept-either, dropped-apart, kept-in-order, in-order-only}
 use Rattle.table.specs.Table.{filled, kept, dropped}
 use Rattle.wire.specs.Refusals.{ifaceCheck}
 use Rattle.wire.specs.declared.error.Check.the-variants.{Fine, Refused as Fails}
@@ -50,13 +50,6 @@ use Rattle.wire.specs.declared.error.Refusal.the-variants.{NoSuchIface}
 module _ {A : Type 0} (slots : List A) (len : ℕ) (gone : A → Bool) where
   abbrev left : List A
   left = kept gone (take len slots)
-
-  -- by the same test
-  twice-slots : filled (filled slots left) (kept gone (take (length left) (filled slots left))) ≡ filled slots left
-  twice-slots = rw (entries-with slots left, kept-again gone (take len slots)) (filled-again slots left)
-
-  twice-count : length (kept gone (take (length left) (filled slots left))) ≡ length left
-  twice-count = rw (entries-with slots left) (ap length (kept-again gone (take len slots)))
 
   abbrev SameAs : (A → Bool) → List A → Type 0
   SameAs other firstLeft =

@@ -8,6 +8,7 @@ use mathlib.Core.Logic.{_⊎_, inl, inr}
 use mathlib.Core.Path.{_≡_, refl, sym, ap, _∙_, subst}
 use native.Mathlib.Omega.{arith}
 use Rattle.claims.specs.Lists.{All, Some, Member}
+use Rattle.table.proofs.Kept.{kept-again, filled-again}
 use Rattle.table.specs.Table.{swapRemove, lastOf, frontOf, lastFirst, kept, dropped, atFirst, anyOf, foldOver, filled}
 
 -- Tests: x, or else y
@@ -57,6 +58,15 @@ fold-append step b (x ∷ xs) ys = fold-append step (step b x) xs ys
 
 pub entries-with : {A : Type 0} (s xs : List A) → take (length xs) (filled s xs) ≡ xs
 entries-with s xs = take-at xs (drop (length xs) s) (length xs) refl
+
+-- a table whose entries go by the same test twice is as after the first time, slot for slot
+module _ {A : Type 0} (slots : List A) (len : ℕ) (gone : A → Bool) where
+  pub twice-slots : filled (filled slots (kept gone (take len slots))) (kept gone (take (length (kept gone (take len slots))) (filled slots (kept gone (take len slots)))))
+      ≡ filled slots (kept gone (take len slots))
+  twice-slots = rw (entries-with slots (kept gone (take len slots)), kept-again gone (take len slots)) (filled-again slots (kept gone (take len slots)))
+
+  pub twice-count : length (kept gone (take (length (kept gone (take len slots))) (filled slots (kept gone (take len slots))))) ≡ length (kept gone (take len slots))
+  twice-count = rw (entries-with slots (kept gone (take len slots))) (ap length (kept-again gone (take len slots)))
 
 -- Lengths
 

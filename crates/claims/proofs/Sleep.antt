@@ -9,7 +9,7 @@ use mathlib.Core.Path.{_≡_, refl, sym, ap, _∙_, subst}
 use native.Mathlib.Omega.{arith}
 use Rattle.claims.proofs.Caches.{listed-events}
 use Rattle.claims.proofs.Clocks.{clocks}
-use Rattle.claims.proofs.Lists.{all-append}
+use Rattle.claims.proofs.Lists.{twice-slots, twice-count, all-append}
 use Rattle.claims.proofs.Wake.{wake}
 use Rattle.claims.proofs.WakePoll.{wake-poll}
 use Rattle.claims.proofs.WakeTable.{same-ifaces}
@@ -50,13 +50,13 @@ use Rattle.neighbor.specs.declared.NeighborCache.{NeighborCache}
 use Rattle.pending.proofs.Calls.{packets-of}
 use Rattle.pending.specs.declared.PendingPacket.{PendingPacket}
 use Rattle.pending.specs.declared.PendingQueue.{PendingQueue}
-use Rattle.pending.specs.QueueCalls.{packets, withPackets, handlesOf, purgedOf}
+use Rattle.pending.specs.QueueCalls.{packets, handlesOf, purgedOf}
 use Rattle.pending.specs.QueueRules.{Queue, handleOf, orphaned, droppedHandles}
 use Rattle.slaac.specs.declared.Slaac.{Slaac}
 use Rattle.sweep.proofs.Entries.{sweep-entries, sweep-events}
 use Rattle.sweep.specs.SweepCalls.{eventList, eventsTable, sweepBy}
 use Rattle.sweep.specs.SweepRules.{sweepTable}
-use Rattle.table.proofs.Kept.{kept-law, dropped-again, filled-again}
+use Rattle.table.proofs.Kept.{dropped-again}
 use Rattle.table.specs.Table.{foldOver, kept, dropped}
 use Rattle.time.specs.ClockRules.{idle}
 use Rattle.time.specs.declared.Clock.{Clock}
@@ -76,12 +76,7 @@ use Rattle.wire.specs.declared.ipv6.Ipv6Addr.{Ipv6Addr}
 module _ (q : PendingQueue) (goes : PendingPacket → Bool) where
   pub purge-queue : purgedOf (purgedOf q goes .queue) goes .queue ≡ purgedOf q goes .queue
   unfolding purgedOf
-  purge-queue =
-      ap (λ (ps : Queue). withPackets (withPackets q (kept goes (packets q))) (kept goes ps)) (packets-of q (kept goes (packets q)))
-      ∙ (ap (withPackets (withPackets q (kept goes (packets q)))) (kept-law .again goes (packets q)) ∙ over (kept goes (packets q)))
-    where
-      over : (xs : Queue) → withPackets (withPackets q xs) xs ≡ withPackets q xs
-      over xs = ap (λ (s : Queue). record { slots = s; len = length xs }) (filled-again (q .slots) xs)
+  purge-queue = λ i. record { slots = twice-slots (q .slots) (q .len) goes i; len = twice-count (q .slots) (q .len) goes i }
 
   pub purge-none : purgedOf (purgedOf q goes .queue) goes .handles ≡ handlesOf []
   unfolding purgedOf droppedHandles

@@ -40,7 +40,7 @@ pub record KeptLaw : Type 1 where
   -- entry by entry, in order: what goes is passed over
   pub folded : {A B : Type 0} (step : B → A → B) (gone : A → Bool) (b : B) (xs : List A)
       → foldOver step b (kept gone xs) ≡ foldOver (λ c x. cond (gone x) c (step c x)) b xs
-  -- what was kept by a test has nothing that the same test drops; and all that another drops which drops none of what the first drops
+  -- of what a test kept the same test drops nothing; and another test, by which none of the same entries go, drops of it what it drops of the whole list
   pub dropped-again : {A : Type 0} (gone : A → Bool) (xs : List A) → dropped gone (kept gone xs) ≡ []
   pub dropped-apart : {A : Type 0} (gone other : A → Bool) (xs : List A) → ((x : A) → gone x ≡ true → other x ≡ false)
       → dropped other (kept gone xs) ≡ dropped other xs
