@@ -1,19 +1,19 @@
 -- The forward law of the clock. Assumes nothing.
-use mathlib.Core.Path.{_≡_, refl, _∙_}
+use mathlib.Core.Path.{◌≡◌, refl, ◌∙◌}
 use native.Mathlib.Omega.{arith}
 use mathlib.Core.Bool.{Bool, true, false, cond, true≢false}
-use mathlib.Core.List.{List, [], _∷_}
+use mathlib.Core.List.{List, [], ◌∷◌}
 use lib.Dec.{ltb}
 use borrow.Author.Tests.{ltb-true, ltb-false}
-use Rattle·time·specs.specs.declared.Instant.{Instant}
-use Rattle·time·specs.specs.declared.Deadline.{Deadline}
-use Rattle·time·specs.specs.declared.Deadline.the-variants.{None, At}
-use Rattle·time·specs.specs.declared.Expiry.{Expiry}
-use Rattle·time·specs.specs.declared.Expiry.the-variants.{At as EndsAt, Forever}
-use Rattle·time·specs.specs.declared.Clock.{Clock}
-use Rattle·time·specs.specs.declared.Answer.{Answer}
-use Rattle·time·specs.specs.ClockRules.{has_expired, sooner, scheduled_of, asked_of_is, asked_end}
-use Rattle·time·specs.specs.Forward.{NotLater, Forward, Step, ask, ask_of, schedule, stepped, runs, ForwardLaw}
+use Rattle.time.specs.declared.Instant.{Instant}
+use Rattle.time.specs.declared.Deadline.{Deadline}
+use Rattle.time.specs.declared.Deadline.TheVariants.{None, At}
+use Rattle.time.specs.declared.Expiry.{Expiry}
+use Rattle.time.specs.declared.Expiry.TheVariants.{At as EndsAt, Forever}
+use Rattle.time.specs.declared.Clock.{Clock}
+use Rattle.time.specs.declared.Answer.{Answer}
+use Rattle.time.specs.ClockRules.{has_expired, sooner, scheduled_of, asked_of, asked_end}
+use Rattle.time.specs.Forward.{NotLater, Forward, Step, ask, ask_of, schedule, stepped, runs, ForwardLaw}
 
 pub same : (d : Deadline) → NotLater d d
 same None = tt
@@ -27,41 +27,41 @@ after (At x) (At y) (At z) p q = omega arith
 
 -- whoever changes nothing, and one after the other
 pub unmoved : (c : Clock) → Forward c c
-unmoved c = record { now = refl; deadline = same (c .deadline) }
+unmoved c = record { now = refl; deadline = same c.deadline }
 
 pub then : (a b c : Clock) → Forward a b → Forward b c → Forward a c
-then a b c p q = record { now = q .now ∙ p .now; deadline = after (c .deadline) (b .deadline) (a .deadline) (q .deadline) (p .deadline) }
+then a b c p q = record { now = q.now ∙ p.now; deadline = after c.deadline b.deadline a.deadline q.deadline p.deadline }
 
 -- the earlier of two, by the test
-picks : (b : Bool) (t e : Instant) → ltb (t .0) (e .0) ≡ b → NotLater (cond b (At t) (At e)) (At e) × NotLater (cond b (At t) (At e)) (At t)
+picks : (b : Bool) (t e : Instant) → ltb t.0 e.0 ≡ b → NotLater (cond b (At t) (At e)) (At e) × NotLater (cond b (At t) (At e)) (At t)
 picks true t e h = (omega (arith, ltb-true), omega arith)
 picks false t e h = (omega arith, omega (arith, ltb-false))
 
 sooner_forward : (d : Deadline) (t : Instant) → NotLater (sooner d t) d × NotLater (sooner d t) (At t)
 sooner_forward None t = (tt, omega arith)
-sooner_forward (At e) t = picks (ltb (t .0) (e .0)) t e refl
+sooner_forward (At e) t = picks (ltb t.0 e.0) t e refl
 
 pub scheduling : (c : Clock) (t : Instant) → Forward c (scheduled_of c t)
-scheduling c t = record { now = refl; deadline = sooner_forward (c .deadline) t .0 }
+scheduling c t = record { now = refl; deadline = (sooner_forward c.deadline t).0 }
 
 -- an ask, by whether the time has come
 abbrev answered : Bool → Clock → Instant → Answer
 answered b c t = cond b (record { expired = true; clock = c }) (record { expired = false; clock = scheduled_of c t })
 
-asks : (b : Bool) (c : Clock) (t : Instant) → Forward c (answered b c t .clock)
+asks : (b : Bool) (c : Clock) (t : Instant) → Forward c (answered b c t).clock
 asks true c t = unmoved c
 asks false c t = scheduling c t
 
-pub asking : (c : Clock) (t : Instant) → Forward c (asked_of_is c t .clock)
+pub asking : (c : Clock) (t : Instant) → Forward c (asked_of c t).clock
 asking c t = asks (has_expired c t) c t
 
-pub asking_end : (c : Clock) (e : Expiry) → Forward c (asked_end c e .clock)
+pub asking_end : (c : Clock) (e : Expiry) → Forward c (asked_end c e).clock
 asking_end c (EndsAt t) = asking c t
 asking_end c Forever = unmoved c
 
-waited : (b : Bool) (c : Clock) (t : Instant) → answered b c t .expired ≡ false → NotLater (answered b c t .clock .deadline) (At t)
+waited : (b : Bool) (c : Clock) (t : Instant) → (answered b c t).expired ≡ false → NotLater (answered b c t).clock.deadline (At t)
 waited true c t h = absurd (true≢false h)
-waited false c t h = sooner_forward (c .deadline) t .1
+waited false c t h = (sooner_forward c.deadline t).1
 
 step : (c : Clock) (s : Step) → Forward c (stepped c s)
 step c (ask t) = asking c t
@@ -78,5 +78,5 @@ forward_law =
     record {
       forward = all;
       covers = λ c t. waited (has_expired c t) c t;
-      kept = λ c t. sooner_forward (c .deadline) t .1;
+      kept = λ c t. (sooner_forward c.deadline t).1;
     }

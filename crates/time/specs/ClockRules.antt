@@ -1,13 +1,12 @@
 -- Document 01, "Quantities and sizes": the clock of one poll. Request 2026-01: ends that never come. Assumes nothing.
-use mathlib.Core.Bool.{Bool, true, false, cond}
-use lib.Dec.{ltb, leb}
-use Rattle·time·specs.specs.declared.Instant.{Instant}
-use Rattle·time·specs.specs.declared.Deadline.{Deadline}
-use Rattle·time·specs.specs.declared.Deadline.the-variants.{None, At}
-use Rattle·time·specs.specs.declared.Expiry.{Expiry}
-use Rattle·time·specs.specs.declared.Expiry.the-variants.{At as EndsAt, Forever}
-use Rattle·time·specs.specs.declared.Clock.{Clock}
-use Rattle·time·specs.specs.declared.Answer.{Answer}
+use Rattle.std.specs.Prelude.{Bool, true, false, cond, ltb, leb}
+use Rattle.time.specs.declared.Instant.{Instant}
+use Rattle.time.specs.declared.Deadline.{Deadline}
+use Rattle.time.specs.declared.Deadline.TheVariants.{None, At}
+use Rattle.time.specs.declared.Expiry.{Expiry}
+use Rattle.time.specs.declared.Expiry.TheVariants.{At as EndsAt, Forever}
+use Rattle.time.specs.declared.Clock.{Clock}
+use Rattle.time.specs.declared.Answer.{Answer}
 
 -- "The clock of one poll holds now and the earliest deadline so far, or none."
 abbrev pub idle : Instant → Clock
@@ -15,29 +14,29 @@ idle t = record { now = t; deadline = None }
 
 -- "Asking whether t has expired: yes exactly if t <= now"
 abbrev pub has_expired : Clock → Instant → Bool
-has_expired c t = leb (t .0) (c .now .0)
+has_expired c t = leb t.0 c.now.0
 
 -- the earlier of the deadline so far and t
 abbrev pub sooner : Deadline → Instant → Deadline
 sooner None t = At t
-sooner (At e) t = cond (ltb (t .0) (e .0)) (At t) (At e)
+sooner (At e) t = cond (ltb t.0 e.0) (At t) (At e)
 
 -- "t joins the deadline, as scheduling t does"
 abbrev pub scheduled_of : Clock → Instant → Clock
-scheduled_of c t = record { now = c .now; deadline = sooner (c .deadline) t }
+scheduled_of c t = record { now = c.now; deadline = sooner c.deadline t }
 
 -- "yes exactly if t <= now; else t joins the deadline"
-abbrev pub asked_of_is : Clock → Instant → Answer
-asked_of_is c t = cond (has_expired c t) (record { expired = true; clock = c }) (record { expired = false; clock = scheduled_of c t })
+abbrev pub asked_of : Clock → Instant → Answer
+asked_of c t = cond (has_expired c t) (record { expired = true; clock = c }) (record { expired = false; clock = scheduled_of c t })
 
 -- Request 2026-01: "either a moment or forever"
 
 -- the end is still to come
 abbrev pub is_after : Expiry → Instant → Bool
-is_after (EndsAt t) now = ltb (now .0) (t .0)
+is_after (EndsAt t) now = ltb now.0 t.0
 is_after Forever now = true
 
 -- "Forever never expires and adds no deadline"
 abbrev pub asked_end : Clock → Expiry → Answer
-asked_end c (EndsAt t) = asked_of_is c t
+asked_end c (EndsAt t) = asked_of c t
 asked_end c Forever = record { expired = false; clock = c }

@@ -1,25 +1,22 @@
 -- Document 01: "The clock is lent to each part in turn, and each may only bring its deadline forward." Assumes nothing.
-use mathlib.Core.Path.{_≡_}
-use mathlib.Core.Bool.{false}
-use mathlib.Core.List.{List, [], _∷_}
-use Prim.Native.Nat.{_≤_}
-use Rattle·time·specs.specs.declared.Instant.{Instant}
-use Rattle·time·specs.specs.declared.Deadline.{Deadline}
-use Rattle·time·specs.specs.declared.Deadline.the-variants.{None, At}
-use Rattle·time·specs.specs.declared.Expiry.{Expiry}
-use Rattle·time·specs.specs.declared.Clock.{Clock}
-use Rattle·time·specs.specs.ClockRules.{scheduled_of, asked_of_is, asked_end}
+use Rattle.std.specs.Prelude.{◌≡◌, false, List, [], ◌∷◌, ◌≤◌}
+use Rattle.time.specs.declared.Instant.{Instant}
+use Rattle.time.specs.declared.Deadline.{Deadline}
+use Rattle.time.specs.declared.Deadline.TheVariants.{None, At}
+use Rattle.time.specs.declared.Expiry.{Expiry}
+use Rattle.time.specs.declared.Clock.{Clock}
+use Rattle.time.specs.ClockRules.{scheduled_of, asked_of, asked_end}
 
 -- the first deadline is the second or earlier; no deadline is later than any
 abbrev pub NotLater : Deadline → Deadline → Type 0
 NotLater d None = Unit {0}
 NotLater None (At e) = ⊥
-NotLater (At a) (At e) = a .0 ≤ e .0
+NotLater (At a) (At e) = a.0 ≤ e.0
 
 -- whoever had the clock leaves now alone and brings the deadline forward or leaves it
 pub record Forward (before after : Clock) : Type 0 where
-  pub now : after .now ≡ before .now
-  pub deadline : NotLater (after .deadline) (before .deadline)
+  pub now : after.now ≡ before.now
+  pub deadline : NotLater after.deadline before.deadline
 
 -- what a part does with the clock
 pub data Step : Type 0 where
@@ -28,8 +25,8 @@ pub data Step : Type 0 where
   schedule : Instant → Step
 
 abbrev pub stepped : Clock → Step → Clock
-stepped c (ask t) = asked_of_is c t .clock
-stepped c (ask_of e) = asked_end c e .clock
+stepped c (ask t) = (asked_of c t).clock
+stepped c (ask_of e) = (asked_end c e).clock
 stepped c (schedule t) = scheduled_of c t
 
 unfoldable pub runs : Clock → List Step → Clock
@@ -41,6 +38,6 @@ pub record ForwardLaw : Type 0 where
   -- no sequence of asks and schedules moves a deadline back, or now at all
   pub forward : (c : Clock) (ss : List Step) → Forward c (runs c ss)
   -- a time that was asked and has not come is waited for
-  pub covers : (c : Clock) (t : Instant) → asked_of_is c t .expired ≡ false → NotLater (asked_of_is c t .clock .deadline) (At t)
+  pub covers : (c : Clock) (t : Instant) → (asked_of c t).expired ≡ false → NotLater (asked_of c t).clock.deadline (At t)
   -- and so is a time that was scheduled
-  pub kept : (c : Clock) (t : Instant) → NotLater (scheduled_of c t .deadline) (At t)
+  pub kept : (c : Clock) (t : Instant) → NotLater (scheduled_of c t).deadline (At t)

@@ -1,13 +1,14 @@
 // Points in time, lengths of time, and the clock that one poll lends to each of its parts.
-ghost use mathlib.Core.Path.{_≡_};
-ghost use Prim.Native.Nat.{_*_};
-ghost use Rattle·time·specs.specs.ClockRules.{idle, scheduled_of, asked_of_is, is_after, asked_end};
-ghost use Rattle·time·specs.specs.TimeRules.{add_of, seconds_of};
+ghost use Rattle.std.specs.Prelude.{◌≡◌, ◌*◌};
+ghost use Rattle.time.specs.ClockRules.{idle, scheduled_of, asked_of, is_after, asked_end};
+ghost use Rattle.time.specs.TimeRules.{add_of, seconds_of};
 
 // A point in time, in milliseconds.
+#[derive(Drop)]
 pub struct Instant(pub u64);
 
 // A length of time, in milliseconds.
+#[derive(Drop)]
 pub struct Duration(pub u64);
 
 const LAST_POINT: u64 = 0xffff_ffff_ffff_ffff;
@@ -15,23 +16,27 @@ const LAST_POINT: u64 = 0xffff_ffff_ffff_ffff;
 const MILLIS_PER_SEC: u64 = 1000;
 
 // The earliest point that someone waits for.
+#[derive(Drop)]
 pub enum Deadline {
     None,
     At(Instant),
 }
 
 // When something ends: at a moment, or never.
+#[derive(Drop)]
 pub enum Expiry {
     At(Instant),
     Forever,
 }
 
+#[derive(Drop)]
 pub struct Clock {
     pub now: Instant,
     pub deadline: Deadline,
 }
 
 // What asking gives: whether the time has come, and the clock afterwards.
+#[derive(Drop)]
 pub struct Answer {
     pub expired: bool,
     pub clock: Clock,
@@ -40,7 +45,7 @@ pub struct Answer {
 impl Duration {
     // 32 bits of seconds, as a lifetime on the wire has them, fit as milliseconds.
     pub fn from_secs(secs: u32) -> Duration
-        ensures { λ r. ⌜ r ≡ seconds_of secs ⌝ }
+        ensures { result ≡ seconds_of secs }
     {
         Duration((secs as u64) * MILLIS_PER_SEC)
     }
@@ -49,7 +54,7 @@ impl Duration {
 impl Instant {
     // The one operation that mixes the two. Past 64 bits it is the last point in time.
     pub fn add(self, duration: Duration) -> Instant
-        ensures { λ r. ⌜ r ≡ add_of self duration ⌝ }
+        ensures { result ≡ add_of self duration }
     {
         let room = LAST_POINT - self.0;
         if duration.0 <= room {
@@ -62,7 +67,7 @@ impl Instant {
 
 // The clock with `at` among the times that someone waits for.
 pub fn scheduled(clock: Clock, at: Instant) -> Clock
-    ensures { λ r. ⌜ r ≡ scheduled_of clock at ⌝ }
+    ensures { result ≡ scheduled_of clock at }
 {
     let now = clock.now;
     let deadline = clock.deadline;
@@ -86,7 +91,7 @@ pub fn scheduled(clock: Clock, at: Instant) -> Clock
 
 // Whether `at` has come; a time that has not come is scheduled.
 pub fn asked(clock: Clock, at: Instant) -> Answer
-    ensures { λ r. ⌜ r ≡ asked_of_is clock at ⌝ }
+    ensures { result ≡ asked_of clock at }
 {
     if at.0 <= clock.now.0 {
         return Answer {
@@ -103,7 +108,7 @@ pub fn asked(clock: Clock, at: Instant) -> Answer
 
 // The same of an end. What never ends is not waited for.
 pub fn asked_of(clock: Clock, end: Expiry) -> Answer
-    ensures { λ r. ⌜ r ≡ asked_end clock end ⌝ }
+    ensures { result ≡ asked_end clock end }
 {
     match end {
         Expiry::At(at) => asked(clock, at),
@@ -117,7 +122,7 @@ pub fn asked_of(clock: Clock, end: Expiry) -> Answer
 impl Expiry {
     // Whether it is still to come.
     pub fn is_after(self, now: Instant) -> bool
-        ensures { λ r. ⌜ r ≡ is_after self now ⌝ }
+        ensures { result ≡ is_after self now }
     {
         match self {
             Expiry::At(at) => now.0 < at.0,
@@ -129,7 +134,7 @@ impl Expiry {
 impl Clock {
     // A clock that nobody waits on.
     pub fn new(now: Instant) -> Clock
-        ensures { λ r. ⌜ r ≡ idle now ⌝ }
+        ensures { result ≡ idle now }
     {
         Clock {
             now: now,
@@ -138,13 +143,13 @@ impl Clock {
     }
 
     pub fn now(&self) -> Instant
-        ensures { λ r. ⌜ r ≡ now (self .entry) .now ⌝ }
+        ensures { result ≡ self.entry.now.now }
     {
         self.now
     }
 
     pub fn expired(&mut self, at: Instant) -> bool
-        ensures { λ r. ⌜ (r ≡ asked_of_is (now (self .entry)) at .expired) × (now (self .exit) ≡ asked_of_is (now (self .entry)) at .clock) ⌝ }
+        ensures { (result ≡ (asked_of self.entry.now at).expired) × (self.exit.now ≡ (asked_of self.entry.now at).clock) }
     {
         let answer = asked(*self, at);
         *self = answer.clock;
@@ -152,7 +157,7 @@ impl Clock {
     }
 
     pub fn schedule(&mut self, at: Instant)
-        ensures { λ _. ⌜ now (self .exit) ≡ scheduled_of (now (self .entry)) at ⌝ }
+        ensures { self.exit.now ≡ scheduled_of self.entry.now at }
     {
         *self = scheduled(*self, at);
     }
