@@ -1,4 +1,6 @@
 // Single calls that change something: what a line leaves of what is held. The clock is lent.
+#![tactic(auto)]
+
 use answers::{deadline_after, refused, yes_or_no};
 use autoconf::{AdvertAnswer, PollAnswer};
 use fields::{Args, deadline, read_call};
@@ -60,7 +62,7 @@ const SWEEP: usize = 21;
 const POLL: usize = 22;
 
 // What a call answered.
-#[derive(Drop)]
+#[derive(Clone, Copy)]
 enum Said {
     Outcome(Outcome),
     Got(Got),
@@ -73,14 +75,14 @@ enum Said {
     Scheduled,
 }
 
-#[derive(Drop)]
+#[derive(Clone, Copy)]
 struct Left {
     world: World,
     said: Said,
 }
 
 // What a poll leaves of the state, its answer, and the clock.
-#[derive(Drop)]
+#[derive(Clone, Copy)]
 struct PolledWorld {
     world: World,
     answer: PollAnswer,

@@ -1,4 +1,6 @@
 // What the answers of calls print, without the newline.
+#![tactic(auto)]
+
 use autoconf::{AdvertAnswer, PollAnswer};
 use neighbor::{Answer, Got, NEIGHBOR_CACHE_COUNT, NeighborState};
 use pending::{Handles, PENDING_QUEUE_COUNT, Push, Release};

@@ -1,5 +1,7 @@
 // SLAAC of an interface (RFC 4862): an advertisement teaches, a poll solicits and brings addresses and default routes up to date, and
 // turning it off takes them away.
+#![tactic(auto)]
+
 mod sync;
 
 ghost use Rattle.std.specs.Prelude.{◌≡◌, []};
@@ -21,13 +23,13 @@ use wire::ethernet::HardwareAddress;
 use wire::ipv6::Ipv6Addr;
 
 // The source link-layer address of an advertisement.
-#[derive(Drop)]
+#[derive(Clone, Copy)]
 pub enum LinkLayerAddr {
     Nothing,
     Is(HardwareAddress),
 }
 
-#[derive(Drop)]
+#[derive(Clone, Copy)]
 pub enum AdvertAnswer {
     Refused(Refusal),
     Off,
@@ -35,14 +37,14 @@ pub enum AdvertAnswer {
 }
 
 // What an advertisement leaves.
-#[derive(Drop)]
+#[derive(Clone, Copy)]
 pub struct Advertised {
     pub slaac: Slaac,
     pub cache: NeighborCache,
     pub answer: AdvertAnswer,
 }
 
-#[derive(Drop)]
+#[derive(Clone, Copy)]
 pub enum PollAnswer {
     Refused(Refusal),
     Off,
@@ -55,7 +57,7 @@ pub enum PollAnswer {
 }
 
 // What a poll leaves.
-#[derive(Drop)]
+#[derive(Clone, Copy)]
 pub struct Polled {
     pub slaac: Slaac,
     pub addrs: IfaceAddrs,
@@ -64,14 +66,14 @@ pub struct Polled {
 }
 
 // The same with the clock.
-#[derive(Drop)]
+#[derive(Clone, Copy)]
 pub struct PolledAt {
     pub clock: Clock,
     pub polled: Polled,
 }
 
 // What the solicitation's turn leaves.
-#[derive(Drop)]
+#[derive(Clone, Copy)]
 pub struct Turn {
     pub discovery: Discovery,
     pub clock: Clock,
@@ -79,7 +81,7 @@ pub struct Turn {
 }
 
 // What turning SLAAC off leaves, and the handles of the packets that it dropped.
-#[derive(Drop)]
+#[derive(Clone, Copy)]
 pub struct TurnedOff {
     pub slaac: Slaac,
     pub addrs: IfaceAddrs,
@@ -91,7 +93,7 @@ pub struct TurnedOff {
 }
 
 // What the options of an advertisement teach.
-#[derive(Drop)]
+#[derive(Clone, Copy)]
 pub struct Taught {
     pub slaac: Slaac,
     pub lladdr: LinkLayerAddr,

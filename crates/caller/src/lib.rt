@@ -1,5 +1,7 @@
 // Runs the lines of a descriptor, and hands what they print to a sink. Memory is constant: a block of input, a block of output, and the
 // state.
+#![tactic(auto)]
+
 use acts::act_line;
 use fields::BYTES_MAX;
 use rounds::round_line;
@@ -24,7 +26,7 @@ const INPUT: usize = 69632;
 // More lines than there are.
 const MOST: u64 = 0xffff_ffff_ffff_ffff;
 
-#[derive(Drop)]
+#[derive(Clone, Copy)]
 pub enum Ended {
     // every line was answered
     Answered,
@@ -35,7 +37,7 @@ pub enum Ended {
 }
 
 // How a run ended, and the sink after it.
-#[derive(Drop)]
+#[derive(Clone, Copy)]
 pub struct Ran {
     pub ended: Ended,
     pub sink: Sink,
@@ -43,7 +45,7 @@ pub struct Ran {
 
 // What goes from line to line: the state, what of the input is in hand, the place after what is gathered, and the sink. `skips`: what comes
 // is the rest of a line that is too long. `over`: no line follows, and how the run ended.
-#[derive(Drop)]
+#[derive(Clone, Copy)]
 struct Progress {
     world: World,
     reader: Reader,

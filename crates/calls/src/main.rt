@@ -1,5 +1,7 @@
 // Single calls: the lines of standard input, answered one by one on standard output. Descriptor 2 is told what could not be read or
 // written.
+#![tactic(auto)]
+
 use caller::Ended;
 use streams::sink::{Sink, Target};
 

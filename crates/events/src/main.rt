@@ -1,4 +1,6 @@
 // The event program: standard input to standard output. Descriptor 2 is told why there is no state at the end, in one line.
+#![tactic(auto)]
+
 use runner::Ended;
 use streams::sink::{Sink, Target};
 

@@ -2,6 +2,8 @@
 // `l` a length, `f` flags, of a byte each; `h` a handle or an MTU, `v` a valid and `p` a preferred lifetime, of 32 bits; `t` a time, `n` a number,
 // `g` a budget, of 64 bits; `o` a length of which any number is read; `a` and `z` addresses; `m` and `k` hardware addresses; `x` bytes; `d` a
 // deadline; `u` up or down. A digit is itself.
+#![tactic(auto)]
+
 ghost use Rattle.std.specs.Prelude.{◌≤◌, length};
 
 use text::address::{Address, Hardware, Message, read_address, read_hardware, read_message};
@@ -19,7 +21,7 @@ const BYTE_MAX: u64 = 0xff;
 const WORD_MAX: u64 = 0xffff_ffff;
 
 // What the fields of a line say, as far as they are there; zeros for the rest. `ok`: each could be read.
-#[derive(Drop)]
+#[derive(Clone, Copy)]
 pub struct Args {
     pub ok: bool,
     // which call it is

@@ -12,7 +12,7 @@ use wire::ipv6::{Ipv6Addr, Ipv6Cidr};
 pub const IFACE_ADDR_COUNT: usize = 8;
 
 // Who put an address there.
-#[derive(Drop)]
+#[derive(Clone, Copy)]
 pub enum AddrOrigin {
     // The application.
     Manual,
@@ -21,7 +21,7 @@ pub enum AddrOrigin {
 }
 
 // For how long an address is chosen to send from; after that it still receives (RFC 4862, 5.5.4).
-#[derive(Drop)]
+#[derive(Clone, Copy)]
 pub enum Preferred {
     // The application's: no lifetime was given.
     Always,
@@ -32,42 +32,42 @@ pub enum Preferred {
 }
 
 // An entry: the address and its length are the key, the rest is how it came and how long it is preferred.
-#[derive(Drop)]
+#[derive(Clone, Copy)]
 pub struct IfaceAddr {
     pub cidr: Ipv6Cidr,
     pub origin: AddrOrigin,
     pub preferred: Preferred,
 }
 
-#[derive(Drop)]
+#[derive(Clone, Copy)]
 pub struct IfaceAddrs {
     pub slots: [IfaceAddr; IFACE_ADDR_COUNT],
     pub len: usize,
 }
 
 // What the application's call leaves.
-#[derive(Drop)]
+#[derive(Clone, Copy)]
 pub struct Added {
     pub addrs: IfaceAddrs,
     pub outcome: Outcome,
 }
 
 // The table without SLAAC's addresses, and whether there were any.
-#[derive(Drop)]
+#[derive(Clone, Copy)]
 pub struct Cleared {
     pub addrs: IfaceAddrs,
     pub any: bool,
 }
 
 // The address that a message is sent from.
-#[derive(Drop)]
+#[derive(Clone, Copy)]
 pub enum Source {
     Nothing,
     From(Ipv6Addr),
 }
 
 // The entry at an index.
-#[derive(Drop)]
+#[derive(Clone, Copy)]
 pub enum AddrAt {
     Nothing,
     Is(IfaceAddr),

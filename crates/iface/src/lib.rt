@@ -1,5 +1,7 @@
 // What an interface has: its addresses, and the routes that the interfaces share. The application adds to both, and SLAAC
 // installs what it learned.
+#![tactic(auto)]
+
 ghost use Rattle.wire.specs.Refusals.{Tested};
 ghost use Rattle.iface.specs.Answers.{prefix_rows};
 

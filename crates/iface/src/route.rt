@@ -12,7 +12,7 @@ use wire::ipv6::{Ipv6Addr, Ipv6Cidr};
 pub const ROUTE_COUNT: usize = 8;
 
 // Who put a route there.
-#[derive(Drop)]
+#[derive(Clone, Copy)]
 pub enum RouteOrigin {
     // The application.
     Manual,
@@ -21,7 +21,7 @@ pub enum RouteOrigin {
 }
 
 // Packets for the prefix go to the router, by the interface.
-#[derive(Drop)]
+#[derive(Clone, Copy)]
 pub struct Route {
     pub cidr: Ipv6Cidr,
     pub via_router: Ipv6Addr,
@@ -30,21 +30,21 @@ pub struct Route {
     pub expires_at: Expiry,
 }
 
-#[derive(Drop)]
+#[derive(Clone, Copy)]
 pub struct Routes {
     pub slots: [Route; ROUTE_COUNT],
     pub len: usize,
 }
 
 // What the application's call leaves.
-#[derive(Drop)]
+#[derive(Clone, Copy)]
 pub struct AddedRoute {
     pub routes: Routes,
     pub outcome: Outcome,
 }
 
 // The entry at an index.
-#[derive(Drop)]
+#[derive(Clone, Copy)]
 pub enum RouteAt {
     Nothing,
     Is(Route),

@@ -1,5 +1,7 @@
 // A clock that is held by value is lent for one call, and comes back beside what the call returns: so a program that keeps its clock in a
 // struct makes the calls to which a clock is lent.
+#![tactic(auto)]
+
 ghost use Rattle.std.specs.Prelude.{◌≡◌};
 ghost use Rattle.time.specs.ClockRules.{asked_of, scheduled_of};
 ghost use Rattle.lent.specs.LentRules.{ReportedTo, PolledBy as LeftByPoll};
@@ -14,21 +16,21 @@ use time::{Clock, Instant};
 use wire::ethernet::HardwareAddress;
 
 // Whether a time has come, and the clock afterwards.
-#[derive(Drop)]
+#[derive(Clone, Copy)]
 pub struct Asked {
     pub yes: bool,
     pub clock: Clock,
 }
 
 // What a sweep leaves, with the clock.
-#[derive(Drop)]
+#[derive(Clone, Copy)]
 pub struct SweptBy {
     pub reported: Reported,
     pub clock: Clock,
 }
 
 // What a poll leaves, with the clock.
-#[derive(Drop)]
+#[derive(Clone, Copy)]
 pub struct PolledBy {
     pub polled: Polled,
     pub clock: Clock,

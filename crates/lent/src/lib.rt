@@ -1,5 +1,7 @@
 // The outermost calls, to which the clock is lent. Each reads the clock whole, makes one call with the clock by value, and stores it
 // whole.
+#![tactic(auto)]
+
 ghost use Rattle.lent.specs.LentRules.{ReportedTo, PolledBy};
 
 use autoconf::{Polled, poll_at};
@@ -13,7 +15,7 @@ use wire::error::Outcome;
 use wire::ethernet::HardwareAddress;
 
 // What a sweep leaves beside the clock.
-#[derive(Drop)]
+#[derive(Clone, Copy)]
 pub struct Reported {
     pub cache: NeighborCache,
     pub events: Events,

@@ -9,7 +9,7 @@ use text::scan::{is, space};
 use wire::ethernet::HardwareAddress;
 use wire::ipv6::Ipv6Addr;
 
-#[derive(Drop)]
+#[derive(Clone, Copy)]
 pub enum Event {
     Up,
     Down,
@@ -24,13 +24,13 @@ pub enum Event {
 }
 
 // What follows the time.
-#[derive(Drop)]
+#[derive(Clone, Copy)]
 pub enum Read {
     Event(Event),
     Bad,
 }
 
-#[derive(Drop)]
+#[derive(Clone, Copy)]
 pub enum Parsed {
     At(u64, Event),
     Bad,

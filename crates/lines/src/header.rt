@@ -10,7 +10,7 @@ use wire::ipv6::Ipv6Cidr;
 
 const BYTE_MAX: u64 = 255;
 
-#[derive(Drop)]
+#[derive(Clone, Copy)]
 pub enum Static {
     Value(Ipv6Cidr),
     Bad,

@@ -1,5 +1,7 @@
 // The main loop of a card that uses the library: which call comes after what, and how long the card may sleep. A field has a local of its
 // own wherever the borrow checker takes only a variable.
+#![tactic(auto)]
+
 ghost use Rattle.std.specs.Prelude.{◌≡◌, [], ◌∷◌};
 ghost use Rattle.neighbor.specs.CacheCalls.{key};
 ghost use Rattle.sweep.specs.SweepCalls.{events_table};
@@ -25,7 +27,7 @@ pub const IFACE: u8 = 0;
 // How many inputs the inbox holds.
 pub const INBOX_COUNT: usize = 4;
 
-#[derive(Drop)]
+#[derive(Clone, Copy)]
 pub struct Card {
     pub slaac: Slaac,
     pub addrs: IfaceAddrs,
@@ -35,7 +37,7 @@ pub struct Card {
 }
 
 // What wakes a card.
-#[derive(Drop)]
+#[derive(Clone, Copy)]
 pub enum Input {
     // The time until which it slept.
     Timer,
@@ -50,7 +52,7 @@ pub enum Input {
 }
 
 // What is to be done about it at once.
-#[derive(Drop)]
+#[derive(Clone, Copy)]
 pub enum Action {
     Nothing,
     // What the advertisement was answered. Its router is not known as a neighbour.
@@ -68,7 +70,7 @@ pub enum Action {
 }
 
 // What an input leaves.
-#[derive(Drop)]
+#[derive(Clone, Copy)]
 pub struct Taken {
     pub card: Card,
     pub action: Action,
@@ -76,14 +78,14 @@ pub struct Taken {
 }
 
 // The packets that waited for a neighbour, and the queue without them.
-#[derive(Drop)]
+#[derive(Clone, Copy)]
 pub struct Ready {
     pub queue: PendingQueue,
     pub handles: Handles,
 }
 
 // What is left for the card to do before it sleeps.
-#[derive(Drop)]
+#[derive(Clone, Copy)]
 pub struct Settled {
     pub card: Card,
     // Whether a router solicitation stands in the buffer.
@@ -98,7 +100,7 @@ pub struct Settled {
 
 // What woke the card, when, and whether the link was up. An advertisement's message is a stretch of the receive buffer; with another input
 // it is not read.
-#[derive(Drop)]
+#[derive(Clone, Copy)]
 pub struct Woken {
     pub at: Instant,
     pub up: bool,
@@ -108,7 +110,7 @@ pub struct Woken {
 }
 
 // All that a turn leaves to do.
-#[derive(Drop)]
+#[derive(Clone, Copy)]
 pub struct Report {
     pub action: Action,
     pub ready: Handles,
@@ -118,7 +120,7 @@ pub struct Report {
 }
 
 // What a turn leaves.
-#[derive(Drop)]
+#[derive(Clone, Copy)]
 pub struct Turned {
     pub card: Card,
     pub report: Report,
@@ -126,21 +128,21 @@ pub struct Turned {
 }
 
 // What the card's drivers gave, in order.
-#[derive(Drop)]
+#[derive(Clone, Copy)]
 pub struct Inbox {
     pub slots: [Woken; INBOX_COUNT],
     pub len: usize,
 }
 
 // A report for each turn, in order.
-#[derive(Drop)]
+#[derive(Clone, Copy)]
 pub struct Reports {
     pub slots: [Report; INBOX_COUNT],
     pub len: usize,
 }
 
 // What a run leaves.
-#[derive(Drop)]
+#[derive(Clone, Copy)]
 pub struct Ran {
     pub card: Card,
     pub reports: Reports,

@@ -1,5 +1,7 @@
 // Neighbour discovery (RFC 4861): options, router advertisements and router solicitations.
 // What the modules share: numbers read from and stored to a slice, the highest byte first.
+#![tactic(auto)]
+
 ghost use Rattle.std.specs.Prelude.{◌≡◌, [], ◌∷◌, ◌+◌, ◌<◌, ◌≤◌, length};
 ghost use Rattle.std.proofs.lemmas.List.Edits.{sets};
 ghost use Rattle.wire.specs.Numbers.{u16_at, u32_at, u64_at, bytes16, bytes32, bytes64};

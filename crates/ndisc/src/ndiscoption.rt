@@ -79,7 +79,7 @@ const ON_LINK: u8 = 0x80;
 const ADDRCONF: u8 = 0x40;
 
 // Lifetimes are in seconds.
-#[derive(Drop)]
+#[derive(Clone, Copy)]
 pub struct PrefixInformation {
     pub prefix_len: u8,
     pub on_link: bool,
@@ -89,7 +89,7 @@ pub struct PrefixInformation {
     pub prefix: Ipv6Addr,
 }
 
-#[derive(Drop)]
+#[derive(Clone, Copy)]
 pub enum NdiscOption {
     SourceLinkLayerAddr(HardwareAddress),
     TargetLinkLayerAddr(HardwareAddress),
@@ -99,27 +99,27 @@ pub enum NdiscOption {
     Unknown(u8),
 }
 
-#[derive(Drop)]
+#[derive(Clone, Copy)]
 pub enum Checked {
     Refused(Refusal),
     Well { option: NdiscOption, units: usize },
 }
 
-#[derive(Drop)]
+#[derive(Clone, Copy)]
 pub enum Written {
     Refused(Refusal),
     Done,
 }
 
 // Whether every option is well formed, and the place of the first that is not.
-#[derive(Drop)]
+#[derive(Clone, Copy)]
 pub enum Walk {
     Clean,
     MalformedAt(usize),
 }
 
 // What stands at a place of the options.
-#[derive(Drop)]
+#[derive(Clone, Copy)]
 pub enum Next {
     End,
     Malformed,

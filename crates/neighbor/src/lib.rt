@@ -1,4 +1,6 @@
 // The neighbour cache: the map from (interface, address) to hardware address, and the resolutions on their way.
+#![tactic(auto)]
+
 ghost use Rattle.std.specs.Prelude.{◌<◌, ◌≡◌, ◌&&◌, ◌||◌, ltb, eqb};
 ghost use Rattle.neighbor.specs.Answers.{answer_of, listed, listed_state};
 ghost use Rattle.neighbor.specs.CacheCalls.{empty, key, LookedUp, changed_to, put_in, StartTo, InsertTo, FillTo, ClearTo, GotBy, ListedAt, RemovedTo};
@@ -14,7 +16,7 @@ use wire::ipv6::Ipv6Addr;
 pub const NEIGHBOR_CACHE_COUNT: usize = 16;
 
 // What is known of a neighbour (RFC 4861, 7.3.2, as far as the Rust has it).
-#[derive(Drop)]
+#[derive(Clone, Copy)]
 pub enum State {
     // Asked for since the last sweep, so no timer is set.
     Started,
@@ -35,21 +37,21 @@ pub enum State {
 }
 
 // An entry: its key is the interface and the address.
-#[derive(Drop)]
+#[derive(Clone, Copy)]
 pub struct Entry {
     pub iface: u8,
     pub addr: Ipv6Addr,
     pub state: State,
 }
 
-#[derive(Drop)]
+#[derive(Clone, Copy)]
 pub struct NeighborCache {
     pub slots: [Entry; NEIGHBOR_CACHE_COUNT],
     pub len: usize,
 }
 
 // An answer to a lookup.
-#[derive(Drop)]
+#[derive(Clone, Copy)]
 pub enum Answer {
     Refused(Refusal),
     Found(HardwareAddress),
@@ -58,14 +60,14 @@ pub enum Answer {
 }
 
 // An entry as the application sees it.
-#[derive(Drop)]
+#[derive(Clone, Copy)]
 pub struct Neighbor {
     pub iface: u8,
     pub addr: Ipv6Addr,
     pub state: NeighborState,
 }
 
-#[derive(Drop)]
+#[derive(Clone, Copy)]
 pub enum NeighborState {
     Incomplete,
     Reachable {
@@ -78,27 +80,27 @@ pub enum NeighborState {
 }
 
 // An entry that was asked for, or taken out.
-#[derive(Drop)]
+#[derive(Clone, Copy)]
 pub enum Got {
     Refused(Refusal),
     Nothing,
     Is(Neighbor),
 }
 
-#[derive(Drop)]
+#[derive(Clone, Copy)]
 pub struct Changed {
     pub cache: NeighborCache,
     pub outcome: Outcome,
 }
 
-#[derive(Drop)]
+#[derive(Clone, Copy)]
 pub struct Removed {
     pub cache: NeighborCache,
     pub taken: Got,
 }
 
 // What is evicted first: the lowest kind, and of one kind the earliest time.
-#[derive(Drop)]
+#[derive(Clone, Copy)]
 struct Rank {
     kind: u8,
     at: u64,

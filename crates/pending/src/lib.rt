@@ -1,4 +1,6 @@
 // The packets that wait for a neighbour's resolution: 32-bit handles under the keys of the neighbour cache, oldest first.
+#![tactic(auto)]
+
 ghost use Rattle.std.specs.Prelude.{◌≡◌};
 ghost use Rattle.neighbor.specs.CacheCalls.{key};
 ghost use Rattle.pending.specs.QueueRules.{has_key, awaits};
@@ -13,7 +15,7 @@ use wire::ipv6::Ipv6Addr;
 pub const PENDING_QUEUE_COUNT: usize = 8;
 
 // A packet that waits for its key, the interface and the address.
-#[derive(Drop)]
+#[derive(Clone, Copy)]
 pub struct PendingPacket {
     pub iface: u8,
     pub addr: Ipv6Addr,
@@ -21,21 +23,21 @@ pub struct PendingPacket {
 }
 
 // The oldest packet stands first.
-#[derive(Drop)]
+#[derive(Clone, Copy)]
 pub struct PendingQueue {
     pub slots: [PendingPacket; PENDING_QUEUE_COUNT],
     pub len: usize,
 }
 
 // Handles that were dropped, in queue order; past the count are zeros.
-#[derive(Drop)]
+#[derive(Clone, Copy)]
 pub struct Handles {
     pub slots: [u32; PENDING_QUEUE_COUNT],
     pub len: usize,
 }
 
 // What became of a push.
-#[derive(Drop)]
+#[derive(Clone, Copy)]
 pub enum Push {
     Refused(Refusal),
     Queued,
@@ -43,21 +45,21 @@ pub enum Push {
     Dropped(u32),
 }
 
-#[derive(Drop)]
+#[derive(Clone, Copy)]
 pub struct Pushed {
     pub queue: PendingQueue,
     pub answer: Push,
 }
 
 // A packet that was taken out to be sent.
-#[derive(Drop)]
+#[derive(Clone, Copy)]
 pub enum Release {
     Refused(Refusal),
     Nothing,
     Handle(u32),
 }
 
-#[derive(Drop)]
+#[derive(Clone, Copy)]
 pub struct Released {
     pub queue: PendingQueue,
     pub answer: Release,
@@ -65,7 +67,7 @@ pub struct Released {
 
 // What a purge leaves and what it dropped. A purge that is carried out puts the queue in as slots and count: whole, in front of the
 // handles, it would be copied once more on its way out.
-#[derive(Drop)]
+#[derive(Clone, Copy)]
 pub struct Purged {
     pub queue: PendingQueue,
     pub handles: Handles,
@@ -73,7 +75,7 @@ pub struct Purged {
 }
 
 // A packet of a listing.
-#[derive(Drop)]
+#[derive(Clone, Copy)]
 pub enum Waiting {
     Nothing,
     Is(PendingPacket),

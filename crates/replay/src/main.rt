@@ -1,5 +1,7 @@
 // Runs each recorded case of the event program, 1.in, 2.in, .., and holds its output to 1.out, 2.out, ..; and each of the calls, 1.calls, ..,
 // which it holds to 1.answers, .. Then two of each against answers that are wrong, which shows that a difference is seen.
+#![tactic(auto)]
+
 use runner::Ended;
 use streams::sink::{Sink, Target};
 
@@ -14,13 +16,13 @@ const LONG: u64 = 605;
 const LONG_CALLS: u64 = 381;
 
 // Which program's cases.
-#[derive(Drop)]
+#[derive(Clone, Copy)]
 pub enum Kind {
     Events,
     Calls,
 }
 
-#[derive(Drop)]
+#[derive(Clone, Copy)]
 pub enum Case {
     Same,
     Differs,

@@ -1,4 +1,6 @@
 // The main loop's lines, on a card that is interface 0 with what the interfaces share.
+#![tactic(auto)]
+
 use answers::{deadline_after, hardware_after, refused};
 use autoconf::{AdvertAnswer, PollAnswer};
 use fields::{Args, blank, count, deadline, first_of, values};
@@ -25,7 +27,7 @@ const ANSWER: usize = 3;
 const RUN_LINE: usize = 1;
 
 // The inputs of a line, and whether there is nothing else in it.
-#[derive(Drop)]
+#[derive(Clone, Copy)]
 struct Gathered {
     inbox: Inbox,
     well: bool,

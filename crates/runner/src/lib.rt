@@ -1,5 +1,7 @@
 // Runs the event program: the lines of a descriptor are carried out one by one, and what they print goes to a sink. Memory is
 // constant: a block of input, a block of output, and the state.
+#![tactic(auto)]
+
 ghost use Rattle.std.specs.Prelude.{◌≡◌, ◌<◌, ◌≤◌, length};
 ghost use Rattle.runner.specs.OutputRules.{failed, complete, end_of, end_text};
 ghost use Rattle.runner.specs.RunRules.{begun_run, Room, Whole, FlushedTo, Turned, Ends, Finished, RunTo, RunOf};
@@ -20,7 +22,7 @@ const OUTPUT: usize = 65536;
 const INPUT: usize = 69632;
 
 // How a run ends.
-#[derive(Drop)]
+#[derive(Clone, Copy)]
 pub enum Ended {
     // all events came, and the state was listed
     Listed,
@@ -33,7 +35,7 @@ pub enum Ended {
 }
 
 // How a run ended, and the sink after it.
-#[derive(Drop)]
+#[derive(Clone, Copy)]
 pub struct Ran {
     pub ended: Ended,
     pub sink: Sink,
@@ -41,7 +43,7 @@ pub struct Ran {
 
 // What goes from line to line: the number of the next one and what is wanted there, the state, the place after what is gathered,
 // and the sink. `ok`: the output went well so far.
-#[derive(Drop)]
+#[derive(Clone, Copy)]
 struct Progress {
     number: u64,
     want: Want,
@@ -80,7 +82,7 @@ fn is_nothing(want: Want) -> bool
 }
 
 // Whether the output went well, the place after what is still gathered, and the sink.
-#[derive(Drop)]
+#[derive(Clone, Copy)]
 struct Flush {
     ok: bool,
     at: usize,

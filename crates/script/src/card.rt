@@ -24,7 +24,7 @@ const SOLICIT_LEN: usize = 16;
 // Two digits of a line make a byte of a message.
 const MESSAGE_ROOM: usize = LINE_MAX / 2;
 
-#[derive(Drop)]
+#[derive(Clone, Copy)]
 pub struct Card {
     pub slaac: Slaac,
     pub addrs: IfaceAddrs,
@@ -35,14 +35,14 @@ pub struct Card {
 }
 
 // What an event leaves: the state, and the place after what it printed.
-#[derive(Drop)]
+#[derive(Clone, Copy)]
 pub struct Carried {
     pub card: Card,
     pub at: usize,
 }
 
 // What a line leaves: what is wanted next, the state, and the place after what it printed.
-#[derive(Drop)]
+#[derive(Clone, Copy)]
 pub struct After {
     pub want: Want,
     pub card: Card,

@@ -9,7 +9,7 @@ use wire::ethernet::HardwareAddress;
 use wire::ipv6::Ipv6Addr;
 
 // The neighbours after an event, and the place after what it printed.
-#[derive(Drop)]
+#[derive(Clone, Copy)]
 pub struct Cached {
     pub cache: NeighborCache,
     pub at: usize,

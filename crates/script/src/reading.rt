@@ -13,7 +13,7 @@ use wire::ipv6::Ipv6Cidr;
 pub const LINE_MAX: usize = 4096;
 
 // Address and Event hold how many more follow that one.
-#[derive(Drop)]
+#[derive(Clone, Copy)]
 pub enum Want {
     Mac,
     Addresses,
@@ -27,7 +27,7 @@ pub enum Want {
 }
 
 // What a line says, and what is wanted after it.
-#[derive(Drop)]
+#[derive(Clone, Copy)]
 pub enum Said {
     Bad,
     Mac(HardwareAddress),

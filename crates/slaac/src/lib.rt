@@ -1,4 +1,6 @@
 // What router advertisements teach an interface: prefixes, routers, flags, and the phase of router discovery.
+#![tactic(auto)]
+
 ghost use Rattle.std.specs.Prelude.{◌≡◌, true, false, not, ◌<◌};
 ghost use Rattle.time.specs.declared.Expiry.TheVariants.{At};
 ghost use Rattle.time.specs.ClockRules.{is_after};
@@ -22,7 +24,7 @@ pub const SLAAC_ROUTER_COUNT: usize = 2;
 const MAX_PREFIX_LEN: u8 = 128;
 
 // A prefix that was advertised, and its two times.
-#[derive(Drop)]
+#[derive(Clone, Copy)]
 pub struct Prefix {
     pub cidr: Ipv6Cidr,
     pub preferred_until: Expiry,
@@ -30,14 +32,14 @@ pub struct Prefix {
 }
 
 // A default router: the source of an advertisement.
-#[derive(Drop)]
+#[derive(Clone, Copy)]
 pub struct Router {
     pub addr: Ipv6Addr,
     pub valid_until: Instant,
 }
 
 // How far router discovery has come.
-#[derive(Drop)]
+#[derive(Clone, Copy)]
 pub enum Phase {
     // Nothing is sent yet: the first poll that can will send.
     Start,
@@ -47,14 +49,14 @@ pub enum Phase {
 }
 
 // The phase, and how many solicitations are left.
-#[derive(Drop)]
+#[derive(Clone, Copy)]
 pub struct Discovery {
     pub phase: Phase,
     pub num_solicitations: u8,
 }
 
 // For the application to read.
-#[derive(Drop)]
+#[derive(Clone, Copy)]
 pub struct SlaacState {
     // Whether there is a router at all: an advertisement was taken.
     pub routers_seen: bool,
@@ -65,7 +67,7 @@ pub struct SlaacState {
 }
 
 // SLAAC of one interface. Its addresses and routes are in the interface's tables, which a sync brings up to date.
-#[derive(Drop)]
+#[derive(Clone, Copy)]
 pub struct Slaac {
     pub on: bool,
     pub prefixes: [Prefix; SLAAC_PREFIX_COUNT],
@@ -77,27 +79,27 @@ pub struct Slaac {
     pub state: SlaacState,
 }
 
-#[derive(Drop)]
+#[derive(Clone, Copy)]
 pub struct Changed {
     pub slaac: Slaac,
     pub outcome: Outcome,
 }
 
 // An entry of a listing.
-#[derive(Drop)]
+#[derive(Clone, Copy)]
 pub enum PrefixAt {
     Nothing,
     Is(Prefix),
 }
 
-#[derive(Drop)]
+#[derive(Clone, Copy)]
 pub enum RouterAt {
     Nothing,
     Is(Router),
 }
 
 // Whether a solicitation goes out, and what it leaves.
-#[derive(Drop)]
+#[derive(Clone, Copy)]
 pub struct Solicitation {
     pub due: bool,
     pub discovery: Discovery,

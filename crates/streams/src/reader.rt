@@ -8,13 +8,13 @@ use text::scan::find;
 pub const LONGEST: usize = 4096;
 
 // What of the buffer is read and not yet used: from start up to end.
-#[derive(Drop)]
+#[derive(Clone, Copy)]
 pub struct Reader {
     pub start: usize,
     pub end: usize,
 }
 
-#[derive(Drop)]
+#[derive(Clone, Copy)]
 pub enum Line {
     // the line's bytes are from the first place up to the second; then what is left
     At(usize, usize, Reader),
@@ -27,7 +27,7 @@ pub enum Line {
 }
 
 // What the bytes in hand begin with.
-#[derive(Drop)]
+#[derive(Clone, Copy)]
 pub enum Taken {
     // a line and its newline: from the first place up to the second; then what is left
     Line(usize, usize, Reader),
@@ -41,7 +41,7 @@ pub enum Taken {
     Part,
 }
 
-#[derive(Drop)]
+#[derive(Clone, Copy)]
 pub enum More {
     // the place after what came
     Read(usize),

@@ -5,14 +5,14 @@ ghost use Rattle.streams.specs.Writing.{fresh, counted_by, Done};
 use text::scan::is;
 
 // Output is written to a descriptor, or held to what one has.
-#[derive(Drop)]
+#[derive(Clone, Copy)]
 pub enum Target {
     Write(i32),
     Compare(i32),
 }
 
 // The fields are its own, so that nobody else can count for it.
-#[derive(Drop)]
+#[derive(Clone, Copy)]
 pub struct Sink {
     target: Target,
     // how many bytes were handed over and went well, modulo 2^64
@@ -20,7 +20,7 @@ pub struct Sink {
 }
 
 // Whether the bytes were written, or are the same.
-#[derive(Drop)]
+#[derive(Clone, Copy)]
 pub struct Emitted {
     pub ok: bool,
     pub sink: Sink,

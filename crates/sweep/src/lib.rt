@@ -1,4 +1,6 @@
 // A sweep of an interface: one expiry pass over the whole cache, then the interface's probe events.
+#![tactic(auto)]
+
 ghost use Rattle.std.specs.Prelude.{◌≡◌};
 ghost use Rattle.sweep.specs.SweepCalls.{SweptTo};
 ghost use Rattle.sweep.specs.SweepParts.{AgedTo, timer_of};
@@ -10,7 +12,7 @@ use wire::error::{Check, Outcome};
 use wire::ipv6::Ipv6Addr;
 
 // A resolution timer that was due.
-#[derive(Drop)]
+#[derive(Clone, Copy)]
 pub enum ProbeEvent {
     // Another solicitation is to be sent to the neighbour.
     Retransmit(Ipv6Addr),
@@ -19,18 +21,18 @@ pub enum ProbeEvent {
 }
 
 // An array holds structs, and no enums.
-#[derive(Drop)]
+#[derive(Clone, Copy)]
 pub struct EventSlot {
     pub event: ProbeEvent,
 }
 
-#[derive(Drop)]
+#[derive(Clone, Copy)]
 pub struct Events {
     pub slots: [EventSlot; NEIGHBOR_CACHE_COUNT],
     pub len: usize,
 }
 
-#[derive(Drop)]
+#[derive(Clone, Copy)]
 pub struct Swept {
     pub cache: NeighborCache,
     pub clock: Clock,
@@ -41,14 +43,14 @@ pub struct Swept {
 }
 
 // What the expiry pass makes of a state.
-#[derive(Drop)]
+#[derive(Clone, Copy)]
 struct Aged {
     changed: bool,
     state: State,
 }
 
 // What the probe events make of an entry.
-#[derive(Drop)]
+#[derive(Clone, Copy)]
 enum Timer {
     NotDue,
     // The last probe that it may send went unanswered.

@@ -1,4 +1,6 @@
 // Tables are an array of slots and a count. Laws of them stand in proofs/; this is the one function that they share.
+#![tactic(auto)]
+
 ghost use Rattle.std.specs.Prelude.{◌≡◌, min};
 
 // A count above its size reads as the size.

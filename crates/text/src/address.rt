@@ -14,20 +14,20 @@ const HARDWARE_LEN: usize = 6;
 
 const HARDWARE_DIGITS: usize = 2 * HARDWARE_LEN;
 
-#[derive(Drop)]
+#[derive(Clone, Copy)]
 pub enum Address {
     Value(Ipv6Addr),
     Bad,
 }
 
-#[derive(Drop)]
+#[derive(Clone, Copy)]
 pub enum Hardware {
     Value(HardwareAddress),
     Bad,
 }
 
 // How many bytes a message has.
-#[derive(Drop)]
+#[derive(Clone, Copy)]
 pub enum Message {
     Bytes(usize),
     Bad,

@@ -7,7 +7,7 @@ const LARGEST: u64 = 0xffff_ffff_ffff_ffff;
 // The value of a byte that is no digit.
 const NONE: u64 = 10;
 
-#[derive(Drop)]
+#[derive(Clone, Copy)]
 pub enum Number {
     Value(u64),
     Bad,

@@ -1,14 +1,16 @@
 // Points in time, lengths of time, and the clock that one poll lends to each of its parts.
+#![tactic(auto)]
+
 ghost use Rattle.std.specs.Prelude.{◌≡◌, ◌*◌};
 ghost use Rattle.time.specs.ClockRules.{idle, scheduled_of, asked_of, is_after, asked_end};
 ghost use Rattle.time.specs.TimeRules.{add_of, seconds_of};
 
 // A point in time, in milliseconds.
-#[derive(Drop)]
+#[derive(Clone, Copy)]
 pub struct Instant(pub u64);
 
 // A length of time, in milliseconds.
-#[derive(Drop)]
+#[derive(Clone, Copy)]
 pub struct Duration(pub u64);
 
 const LAST_POINT: u64 = 0xffff_ffff_ffff_ffff;
@@ -16,27 +18,27 @@ const LAST_POINT: u64 = 0xffff_ffff_ffff_ffff;
 const MILLIS_PER_SEC: u64 = 1000;
 
 // The earliest point that someone waits for.
-#[derive(Drop)]
+#[derive(Clone, Copy)]
 pub enum Deadline {
     None,
     At(Instant),
 }
 
 // When something ends: at a moment, or never.
-#[derive(Drop)]
+#[derive(Clone, Copy)]
 pub enum Expiry {
     At(Instant),
     Forever,
 }
 
-#[derive(Drop)]
+#[derive(Clone, Copy)]
 pub struct Clock {
     pub now: Instant,
     pub deadline: Deadline,
 }
 
 // What asking gives: whether the time has come, and the clock afterwards.
-#[derive(Drop)]
+#[derive(Clone, Copy)]
 pub struct Answer {
     pub expired: bool,
     pub clock: Clock,

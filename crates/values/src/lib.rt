@@ -1,4 +1,6 @@
 // Single calls on addresses, messages and options: no state is looked at.
+#![tactic(auto)]
+
 use answers::{address_after, flag, hardware_after, number_after, refused, yes_or_no};
 use fields::{Args, read_call};
 use ndisc::ndisc::{Advert, Solicited, is_router_solicit, router_advert, write_solicit};

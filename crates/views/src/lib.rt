@@ -1,4 +1,6 @@
 // Single calls that look, and change nothing. Where the library lists by index, the index goes one past the last slot.
+#![tactic(auto)]
+
 use answers::{address_after, flag, hardware_after, key, number_after, refused};
 use fields::{Args, read_call};
 use iface::addr::{AddrAt, IFACE_ADDR_COUNT, IfaceAddrs, Source};

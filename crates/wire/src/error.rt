@@ -12,7 +12,7 @@ pub const LAST_IFACE: u8 = 3;
 // The latest time that a call may name: 2^62 ms.
 pub const LATEST: u64 = 0x4000_0000_0000_0000;
 
-#[derive(Drop)]
+#[derive(Clone, Copy)]
 pub enum Refusal {
     // A malformed option.
     Malformed,
@@ -37,14 +37,14 @@ pub enum Refusal {
 }
 
 // Whether a call was carried out.
-#[derive(Drop)]
+#[derive(Clone, Copy)]
 pub enum Outcome {
     Refused(Refusal),
     Done,
 }
 
 // What testing a call's arguments gives.
-#[derive(Drop)]
+#[derive(Clone, Copy)]
 pub enum Check {
     Fine,
     Refused(Refusal),

@@ -4,7 +4,7 @@ ghost use Rattle.wire.specs.Rfc2464.{hardware_at, hardware_bytes, is_unicast_har
 
 use crate::byteorder;
 
-#[derive(Drop)]
+#[derive(Clone, Copy)]
 pub struct HardwareAddress {
     pub hi: u16,
     pub lo: u32,

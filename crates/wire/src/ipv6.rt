@@ -6,20 +6,20 @@ ghost use Rattle.wire.specs.Rfc2464.{is_formed_from, Forms};
 use crate::byteorder;
 use crate::ethernet::HardwareAddress;
 
-#[derive(Drop)]
+#[derive(Clone, Copy)]
 pub struct Ipv6Addr {
     pub hi: u64,
     pub lo: u64,
 }
 
-#[derive(Drop)]
+#[derive(Clone, Copy)]
 pub struct Ipv6Cidr {
     pub address: Ipv6Addr,
     pub prefix_len: u8,
 }
 
 // The address that a prefix forms, if any.
-#[derive(Drop)]
+#[derive(Clone, Copy)]
 pub enum Formed {
     Nothing,
     Addr(Ipv6Cidr),

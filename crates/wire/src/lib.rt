@@ -1,4 +1,6 @@
 // What the other crates share of the wire: addresses, big-endian numbers, and the refusals of document 01.
+#![tactic(auto)]
+
 pub mod byteorder;
 pub mod error;
 pub mod ethernet;

@@ -1,4 +1,6 @@
 // What single calls act on: four interfaces, and the neighbours, packets, routes and clock that they share.
+#![tactic(auto)]
+
 ghost use Rattle.std.specs.Prelude.{◌<◌};
 
 use iface::addr::IfaceAddrs;
@@ -17,14 +19,14 @@ pub const LENT: usize = 2048;
 
 pub const UNWRITTEN: u8 = 0xa5;
 
-#[derive(Drop)]
+#[derive(Clone, Copy)]
 pub struct IfaceState {
     pub slaac: Slaac,
     pub addrs: IfaceAddrs,
     pub up: bool,
 }
 
-#[derive(Drop)]
+#[derive(Clone, Copy)]
 pub struct World {
     pub ifaces: [IfaceState; IFACE_COUNT],
     pub hardware_addr: HardwareAddress,
@@ -35,7 +37,7 @@ pub struct World {
 }
 
 // What a line leaves: the state, and the place after what it printed.
-#[derive(Drop)]
+#[derive(Clone, Copy)]
 pub struct After {
     pub world: World,
     pub at: usize,
