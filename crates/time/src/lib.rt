@@ -145,13 +145,13 @@ impl Clock {
     }
 
     pub fn now(&self) -> Instant
-        ensures { result ≡ self.entry.now.now }
+        ensures { result ≡ self.now.now }
     {
         self.now
     }
 
     pub fn expired(&mut self, at: Instant) -> bool
-        ensures { (result ≡ (asked_of self.entry.now at).expired) × (self.exit.now ≡ (asked_of self.entry.now at).clock) }
+        ensures { (result ≡ (asked_of self.old at).expired) × (self.new ≡ (asked_of self.old at).clock) }
     {
         let answer = asked(*self, at);
         *self = answer.clock;
@@ -159,7 +159,7 @@ impl Clock {
     }
 
     pub fn schedule(&mut self, at: Instant)
-        ensures { self.exit.now ≡ scheduled_of self.entry.now at }
+        ensures { self.new ≡ scheduled_of self.old at }
     {
         *self = scheduled(*self, at);
     }
