@@ -145,7 +145,7 @@ impl Clock {
     }
 
     pub fn now(&self) -> Instant
-        ensures { result ≡ self.now.now }
+        ensures { result ≡ self.entry.now.now }
     {
         self.now
     }
