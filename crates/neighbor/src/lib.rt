@@ -182,6 +182,7 @@ impl State {
 }
 
 impl Entry {
+    #[tactic(auto, unfolding(crate::specs::NeighborRules::same_key))]
     pub fn has_key(self, iface: u8, addr: Ipv6Addr) -> bool
         ensures { result ≡ is_key (key iface addr) self }
     {

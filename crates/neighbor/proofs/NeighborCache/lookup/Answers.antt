@@ -1,0 +1,15 @@
+use Rattle.std.proofs.Common.{arith, sym, ◌∙◌}
+use Rattle.neighbor.proofs.Calls.{looked}
+use Rattle.neighbor.specs.CacheCalls.{blank}
+use Rattle.neighbor.specs.declared.Answer.TheVariants.{NotFound}
+use Rattle.table.proofs.Laws.{scan_next, scan_found, scan_none}
+use Rattle.neighbor.proofs.NeighborCache.lookup.Goals as goal
+
+pub returns-then-has_key : goal.returns-then-has_key
+returns-then-has_key c = looked c.args.self c.args.iface c.args.addr _ (sym c.check_key-check.ensures.is ∙ c.in-Fine.is) (c.answer.ensures ∙ scan_found blank c.loop-i.invariant (omega arith) (sym c.has_key.ensures ∙ c.if-has_key.true))
+
+pub loop-i-preserved : goal.loop-i-preserved
+loop-i-preserved c = scan_next blank c.loop-i.invariant (omega arith) (sym c.has_key.ensures ∙ c.if-has_key.false)
+
+pub returns : goal.returns
+returns c = looked c.args.self c.args.iface c.args.addr NotFound (sym c.check_key-check.ensures.is ∙ c.in-Fine.is) (scan_none blank c.loop-i.invariant (omega arith))
