@@ -1,29 +1,26 @@
 -- Laws of the table of addresses: what each arm of a call leaves is what its rule says. Assumes nothing.
-use Prim.Native.Nat.{ℕ, ◌+◌, ◌<◌, ◌≤◌, min}
+use Prim.Native.Nat.{ℕ, ◌+◌, ◌<◌, ◌≤◌}
 use lib.Dec.{ltb}
 use lib.ListN.{length, length-append, get_or, set}
 use mathlib.Core.Bool.{Bool, true, false, cond}
 use mathlib.Core.List.{List, [], ◌∷◌, ◌++◌}
 use mathlib.Core.Path.{◌≡◌, refl, ap, ap₂, sym, ◌∙◌}
 use native.Mathlib.Omega.{arith}
-use Rattle.iface.proofs.Checks.{is_refused, is_duplicate, is_full_lem, is_fine}
-use Rattle.iface.proofs.Listing.{one_there, none_there}
-use Rattle.iface.specs.AddressRules.{addrs_of, with_addrs, no_addr, is_addr, is_from_slaac, manual_addr, addr_check, add_addr_by, AddedTo, gone, drop_addr, clear_addrs, is_local, source_of, first_local, address_alone, LocalOf, AddrListed}
+use Rattle.iface.proofs.Checks.{is_duplicate, is_fine}
+use Rattle.iface.specs.AddressRules.{addrs_of, with_addrs, no_addr, is_addr, is_from_slaac, manual_addr, addr_check, add_addr_by, AddedTo, gone, drop_addr, clear_addrs, is_local, source_of, first_local, address_alone, LocalOf}
 use Rattle.iface.specs.Answers.{prefix_rows, source_number, source_shown}
 use Rattle.wire.specs.declared.error.Outcome.TheVariants.{Refused, Done}
-use Rattle.iface.specs.declared.addr.AddrAt.TheVariants.{Nothing, Is}
-use Rattle.iface.specs.declared.addr.AddrAt.{AddrAt}
 use Rattle.iface.specs.declared.addr.Cleared.{Cleared}
 use Rattle.iface.specs.declared.addr.IfaceAddr.{IfaceAddr}
 use Rattle.iface.specs.declared.addr.IfaceAddrs.{IfaceAddrs}
 use Rattle.iface.specs.declared.addr.Source.TheVariants.{Nothing as NoSource, From}
 use Rattle.iface.specs.declared.addr.Source.{Source}
-use Rattle.table.proofs.Laws.{at_entry, at_none, Made, at_end, Compacting, compacted, fewer, Finding, found_stays, found_goes, found_any, absent_stays, absent_any}
-use Rattle.table.specs.Table.{without, any_of, first_of}
+use Rattle.table.proofs.Laws.{Made, at_end, Compacting, compacted, fewer, Finding, found_stays, found_goes, found_any, absent_stays, absent_any}
+use Rattle.table.specs.Table.{without, first_of}
 use Rattle.wire.specs.Refusals.{check_number, Tested}
 use Rattle.wire.specs.declared.error.Check.TheVariants.{Fine, Refused as Fails}
 use Rattle.wire.specs.declared.error.Check.{Check}
-use Rattle.wire.specs.declared.error.Refusal.TheVariants.{Duplicate, Full}
+use Rattle.wire.specs.declared.error.Refusal.TheVariants.{Duplicate}
 use Rattle.wire.specs.declared.error.Refusal.{Refusal}
 use Rattle.wire.specs.declared.ipv6.Ipv6Cidr.{Ipv6Cidr}
 
@@ -41,17 +38,10 @@ module _ (t : IfaceAddrs) (iface : ℕ) (c : Ipv6Cidr) (x : Check) (test : Teste
   refuses : (why : Refusal) → addr_check iface c (addrs_of t) ≡ Fails why → AddedTo t iface c (record { addrs = t; outcome = Refused why })
   refuses why z = record { is = sym (ap (λ (y : Check). add_addr_by y t c) z); number = sym (ap check_number z) }
 
-  pub add_refused : (why : Refusal) → x ≡ Fails why → AddedTo t iface c (record { addrs = t; outcome = Refused why })
-  add_refused why f = refuses why (is_refused (prefix_rows iface c) test (any_of (is_addr c) (addrs_of t)) (addrs_of t) f)
-
   module _ (f : x ≡ Fine) (k i : ℕ) (inv : Seek t c k i) where
     pub add_duplicate : i < k → is_addr c (get_or t.slots i no_addr) ≡ true → AddedTo t iface c (record { addrs = t; outcome = Refused Duplicate })
     add_duplicate h g =
         refuses Duplicate (is_duplicate (prefix_rows iface c) test _ (addrs_of t) f (found_any no_addr inv h g))
-
-    pub add_full : k ≤ i → 8 ≤ k → AddedTo t iface c (record { addrs = t; outcome = Refused Full })
-    add_full h l =
-        refuses Full (is_full_lem (prefix_rows iface c) test _ (addrs_of t) f (absent_any no_addr inv h) k inv.count l)
 
     pub add_end : (y : IfaceAddr) → y ≡ manual_addr c → k ≤ i → k < 8
         → AddedTo t iface c (record { addrs = record { slots = set t.slots k y; len = k + 1 }; outcome = Done })
@@ -94,7 +84,7 @@ addrs_cleared t s k w i inv h =
     ap₂ (λ (a : IfaceAddrs) (b : Bool). record { addrs = a; any = b }) (addrs_made t _ s w m)
     (ap₂ (λ (a b : ℕ). ltb a b) m.count inv.count ∙ fewer is_from_slaac (addrs_of t))
 
--- The source, and the listing
+-- The source
 
 no_number : (r : Source) → source_number r ≡ 0
 no_number NoSource = refl
@@ -112,20 +102,3 @@ shown_first (e ∷ es) = go (is_local e) (shown_first es)
 pub local : (t : IfaceAddrs) (r : Source) → r ≡ first_of is_local source_of NoSource (addrs_of t) → LocalOf t r
 unfolding first_local
 local t r e = record { is = e; number = no_number r; shows = ap source_shown e ∙ shown_first (addrs_of t) }
-
-module _ (t : IfaceAddrs) (k i : ℕ) (full : length t.slots ≡ 8) (e : k ≡ min t.len 8) where
-  pub addr_listed : i < k → AddrListed t i (Is (get_or t.slots i no_addr))
-  addr_listed h =
-      record {
-        is = at_entry {B = AddrAt} no_addr (λ x. Is x) Nothing t.slots t.len 8 k i full e h;
-        number = refl;
-        shows = one_there no_addr t.slots t.len 8 k i full e h;
-      }
-
-  pub addr_unlisted : k ≤ i → AddrListed t i Nothing
-  addr_unlisted h =
-      record {
-        is = at_none {B = AddrAt} no_addr (λ x. Is x) Nothing t.slots t.len 8 k i full e h;
-        number = refl;
-        shows = none_there no_addr t.slots t.len 8 k i full e h;
-      }

@@ -1,25 +1,22 @@
 -- Laws of the table of routes: what each arm of a call leaves is what its rule says. Assumes nothing.
-use Prim.Native.Nat.{ℕ, ◌+◌, ◌<◌, ◌≤◌, min}
+use Prim.Native.Nat.{ℕ, ◌+◌, ◌<◌, ◌≤◌}
 use lib.ListN.{length, length-append, get_or, set}
 use mathlib.Core.Bool.{true}
 use mathlib.Core.List.{List, [], ◌∷◌, ◌++◌}
 use mathlib.Core.Path.{◌≡◌, refl, ap, ap₂, sym, ◌∙◌}
 use native.Mathlib.Omega.{arith}
-use Rattle.iface.proofs.Checks.{is_refused, is_duplicate, is_full_lem, is_fine}
-use Rattle.iface.proofs.Listing.{one_there, none_there}
+use Rattle.iface.proofs.Checks.{is_duplicate, is_fine}
 use Rattle.iface.specs.Answers.{prefix_rows}
-use Rattle.iface.specs.RouteRules.{routes_of, with_routes, no_route, is_manual_route, manual_route, route_check, add_route_by, AddedRouteTo, is_learned, is_installed, none_left_is, drop_route, clear_routes, RouteListed}
+use Rattle.iface.specs.RouteRules.{routes_of, with_routes, no_route, is_manual_route, manual_route, route_check, add_route_by, AddedRouteTo, is_learned, is_installed, none_left_is, drop_route, clear_routes}
 use Rattle.wire.specs.declared.error.Outcome.TheVariants.{Refused, Done}
 use Rattle.iface.specs.declared.route.Route.{Route}
-use Rattle.iface.specs.declared.route.RouteAt.TheVariants.{Nothing, Is}
-use Rattle.iface.specs.declared.route.RouteAt.{RouteAt}
 use Rattle.iface.specs.declared.route.Routes.{Routes}
-use Rattle.table.proofs.Laws.{at_entry, at_none, Made, at_end, Compacting, compacted, Finding, found_goes, found_any, absent_stays, absent_any}
-use Rattle.table.specs.Table.{without, any_of}
+use Rattle.table.proofs.Laws.{Made, at_end, Compacting, compacted, Finding, found_goes, found_any, absent_stays, absent_any}
+use Rattle.table.specs.Table.{without}
 use Rattle.wire.specs.Refusals.{check_number, Tested}
 use Rattle.wire.specs.declared.error.Check.TheVariants.{Fine, Refused as Fails}
 use Rattle.wire.specs.declared.error.Check.{Check}
-use Rattle.wire.specs.declared.error.Refusal.TheVariants.{Duplicate, Full}
+use Rattle.wire.specs.declared.error.Refusal.TheVariants.{Duplicate}
 use Rattle.wire.specs.declared.error.Refusal.{Refusal}
 use Rattle.wire.specs.declared.ipv6.Ipv6Addr.{Ipv6Addr}
 use Rattle.wire.specs.declared.ipv6.Ipv6Cidr.{Ipv6Cidr}
@@ -38,18 +35,11 @@ module _ (t : Routes) (iface : ℕ) (c : Ipv6Cidr) (via : Ipv6Addr) (x : Check) 
       → AddedRouteTo t iface c via (record { routes = t; outcome = Refused why })
   refuses why z = record { is = sym (ap (λ (y : Check). add_route_by y t (manual_route iface c via)) z); number = sym (ap check_number z) }
 
-  pub add_refused : (why : Refusal) → x ≡ Fails why → AddedRouteTo t iface c via (record { routes = t; outcome = Refused why })
-  add_refused why f = refuses why (is_refused (prefix_rows iface c) test (any_of (is_manual_route iface c via) (routes_of t)) (routes_of t) f)
-
   module _ (f : x ≡ Fine) (k i : ℕ) (inv : AddSeek t iface c via k i) where
     pub add_duplicate : i < k → is_manual_route iface c via (get_or t.slots i no_route) ≡ true
         → AddedRouteTo t iface c via (record { routes = t; outcome = Refused Duplicate })
     add_duplicate h g =
         refuses Duplicate (is_duplicate (prefix_rows iface c) test _ (routes_of t) f (found_any no_route inv h g))
-
-    pub add_full : k ≤ i → 8 ≤ k → AddedRouteTo t iface c via (record { routes = t; outcome = Refused Full })
-    add_full h l =
-        refuses Full (is_full_lem (prefix_rows iface c) test _ (routes_of t) f (absent_any no_route inv h) k inv.count l)
 
     pub add_end : (y : Route) → y ≡ manual_route iface c via → k ≤ i → k < 8
         → AddedRouteTo t iface c via (record { routes = record { slots = set t.slots k y; len = k + 1 }; outcome = Done })
@@ -87,22 +77,3 @@ pub routes_cleared : (t : Routes) (iface : ℕ) (s : List Route) (k w i : ℕ) �
     → ◌≡◌ {A = Routes} (record { slots = s; len = w }) (with_routes t (clear_routes iface (routes_of t)))
 unfolding clear_routes
 routes_cleared t iface s k w i inv h = routes_made t _ s w (compacted no_route inv h)
-
--- The listing
-
-module _ (t : Routes) (k i : ℕ) (full : length t.slots ≡ 8) (e : k ≡ min t.len 8) where
-  pub route_listed : i < k → RouteListed t i (Is (get_or t.slots i no_route))
-  route_listed h =
-      record {
-        is = at_entry {B = RouteAt} no_route (λ x. Is x) Nothing t.slots t.len 8 k i full e h;
-        number = refl;
-        shows = one_there no_route t.slots t.len 8 k i full e h;
-      }
-
-  pub route_unlisted : k ≤ i → RouteListed t i Nothing
-  route_unlisted h =
-      record {
-        is = at_none {B = RouteAt} no_route (λ x. Is x) Nothing t.slots t.len 8 k i full e h;
-        number = refl;
-        shows = none_there no_route t.slots t.len 8 k i full e h;
-      }
