@@ -2,7 +2,7 @@
 use Prim.Native.Nat.{ℕ, zero, suc, ◌+◌, ◌-◌, ◌*◌, ◌≤◌, ◌<◌, ◌/◌, ◌%◌, ◌^◌}
 use borrow.Author.Tests.{lt-ltb, le-ltb, ne_eqb, ltb-true, ltb-false, leb-true, leb-false}
 use lib.Dec.{ltb, leb}
-use lib.ListN.{length, drop, get_or, drop_of_length-le, length-append}
+use lib.ListN.{length, drop, get_or, length-append}
 use lib.Seq.{drop-cons}
 use mathlib.Core.Bool.{Bool, true, false, cond, ◌&&◌}
 use mathlib.Core.List.{List, [], ◌∷◌, ◌++◌}
@@ -20,11 +20,6 @@ num_step s v i d h e k =
     let t : ltb (digit_of (get_or s i 0)) 10 ≡ true = rw (← e) (lt-ltb d 10 k) in
     simp (drop-cons s i 0 h, t, add-one, e)
 
-pub num_stop : (s : List ℕ) (v i d : ℕ) → i < length s → d ≡ digit_of (get_or s i 0) → 9 < d → read_from v (drop i s) ≡ Bad
-num_stop s v i d h e k =
-    let t : ltb (digit_of (get_or s i 0)) 10 ≡ false = rw (← e) (le-ltb d 10 k) in
-    simp (drop-cons s i 0 h, t)
-
 grows : (s : List ℕ) (v : ℕ) → v ≤ value_from v s
 grows [] v = omega arith
 grows (d ∷ ds) v = let g = grows ds (v * 10 + digit_of d) in omega arith
@@ -37,9 +32,6 @@ pub num_big : (s : List ℕ) (v : ℕ) → 18446744073709551616 ≤ v → read_f
 num_big s v h =
     let g = grows s v in
     simp (le-ltb (value_from v s) 18446744073709551616 (omega arith)) (either (all_digits s))
-
-pub num_end : (s : List ℕ) (v i : ℕ) → length s ≤ i → v < 18446744073709551616 → read_from v (drop i s) ≡ Value v
-num_end s v i h k = simp (drop_of_length-le s h, lt-ltb v 18446744073709551616 k)
 
 pub num_begin : (s : List ℕ) → (length s ≡ 0 → ⊥) → number_of s ≡ read_from 0 s
 num_begin s h = simp (ne_eqb (length s) 0 h)

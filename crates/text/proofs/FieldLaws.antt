@@ -1,31 +1,17 @@
 -- Laws of finding a byte, of a line's fields and of comparing. Assumes nothing.
-use Prim.Native.Nat.{ℕ, zero, suc, ◌+◌, ◌-◌, ◌≤◌, ◌<◌}
-use borrow.Author.Tests.{eq-eqb, ne_eqb, eqb-true, eqb-false}
+use Prim.Native.Nat.{ℕ, zero, suc, ◌+◌, ◌-◌, ◌<◌}
+use borrow.Author.Tests.{eqb-true, eqb-false}
 use lib.Dec.{eqb}
-use lib.ListN.{length, take, drop, get_or, length-drop, drop_of_length-le}
-use lib.Seq.{drop-cons, take_all, length-take-le}
+use lib.ListN.{length, take, drop, get_or, length-drop}
+use lib.Seq.{take_all}
 use mathlib.Core.Bool.{Bool, true, false, cond, ◌&&◌}
 use mathlib.Core.List.{List, [], ◌∷◌}
 use mathlib.Core.Path.{◌≡◌, refl, sym, ap, ap₂, ◌∙◌}
-use native.Mathlib.Numerals.{add-one}
 use native.Mathlib.Omega.{arith}
 use Rattle.text.specs.Fields.{Field, onto, fields, index_of, Found}
 use Rattle.wire.specs.Rfc4291.{same_bytes_is}
 
 -- ---- a search
-
-pub missed : (s : List ℕ) (i b : ℕ) → i < length s → (get_or s i 0 ≡ b → ⊥)
-    → i + index_of b (drop i s) ≡ (i + 1) + index_of b (drop (i + 1) s)
-missed s i b h n = simp (drop-cons s i 0 h, ne_eqb (get_or s i 0) b n, add-one) (omega arith)
-
-pub hit : (s : List ℕ) (i b : ℕ) → i < length s → get_or s i 0 ≡ b → index_of b (drop i s) ≡ 0
-hit s i b h e = simp (drop-cons s i 0 h, eq-eqb (get_or s i 0) b e)
-
-pub over : (s : List ℕ) (i b : ℕ) → length s ≤ i → index_of b (drop i s) ≡ 0
-over s i b h = simp (drop_of_length-le s h)
-
-pub found : (s : List ℕ) (b i : ℕ) → index_of b s ≡ i + index_of b (drop i s) → index_of b (drop i s) ≡ 0 → i ≤ length s → Found s b i
-found s b i e z h = record { is = omega arith; high = h; taken = sym (length-take-le i s h) }
 
 below_by : (b x : ℕ) (n k : ℕ) (xs : List ℕ) (t : Bool) → eqb x b ≡ t → ((j : ℕ) → j < n → get_or xs j 0 ≡ b → ⊥)
     → k < cond t zero (suc n) → get_or (x ∷ xs) k 0 ≡ b → ⊥

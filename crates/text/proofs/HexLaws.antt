@@ -58,16 +58,6 @@ stop s out₀ out n inv k m u =
       is = sym (take-append-drop n out) ∙ ap₂ (λ (a b : List ℕ). a ++ b) t (inv.rest ∙ ap (λ (j : ℕ). drop j out₀) c);
     }
 
-pub stop_first : (s out₀ out : List ℕ) (n a : ℕ) → Unhexing s out₀ out n → n ≤ length out → 2 * n + 1 < length s
-    → a ≡ nibble_of (get_or s (2 * n) 0) → 15 < a → Unhexed s out₀ n out
-stop_first s out₀ out n a inv k h p ha =
-    stop s out₀ out n inv k (omega arith) (simp (unhexed_pair s n h, ← p, lt-leb a 15 ha))
-
-pub stop_second : (s out₀ out : List ℕ) (n a b : ℕ) → Unhexing s out₀ out n → n ≤ length out → 2 * n + 1 < length s
-    → a ≡ nibble_of (get_or s (2 * n) 0) → b ≡ nibble_of (get_or s (2 * n + 1) 0) → a < 16 → 15 < b → Unhexed s out₀ n out
-stop_second s out₀ out n a b inv k h p q ha hb =
-    stop s out₀ out n inv k (omega arith) (simp (unhexed_pair s n h, ← p, ← q, le-leb a 15 (omega arith), lt-leb b 15 hb))
-
 short : (l : List ℕ) → length l ≤ 1 → unhexed l ≡ []
 short [] h = refl
 short (a ∷ []) h = refl
@@ -83,13 +73,6 @@ stop_end s out₀ out n inv k m e =
 pub count_step : (s : List ℕ) (n a b : ℕ) → 2 * n + 1 < length s → a ≡ nibble_of (get_or s (2 * n) 0) → b ≡ nibble_of (get_or s (2 * n + 1) 0) → a < 16 → b < 16
     → n + length (unhexed (drop (2 * n) s)) ≡ (n + 1) + length (unhexed (drop (2 * (n + 1)) s))
 count_step s n a b h p q ha hb = simp (unhexed_pair s n h, ← p, ← q, le-leb a 15 (omega arith), le-leb b 15 (omega arith)) (omega arith)
-
-pub count_first : (s : List ℕ) (n a : ℕ) → 2 * n + 1 < length s → a ≡ nibble_of (get_or s (2 * n) 0) → 15 < a → length (unhexed (drop (2 * n) s)) ≡ 0
-count_first s n a h p ha = simp (unhexed_pair s n h, ← p, lt-leb a 15 ha)
-
-pub count_second : (s : List ℕ) (n a b : ℕ) → 2 * n + 1 < length s → a ≡ nibble_of (get_or s (2 * n) 0) → b ≡ nibble_of (get_or s (2 * n + 1) 0) → a < 16 → 15 < b
-    → length (unhexed (drop (2 * n) s)) ≡ 0
-count_second s n a b h p q ha hb = simp (unhexed_pair s n h, ← p, ← q, le-leb a 15 (omega arith), lt-leb b 15 hb)
 
 pub count_end : (s : List ℕ) (n : ℕ) → length s ≤ 2 * n + 1 → length (unhexed (drop (2 * n) s)) ≡ 0
 count_end s n e = rw (short (drop (2 * n) s) (rw length-drop (omega arith))) refl
