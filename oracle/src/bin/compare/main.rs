@@ -12,11 +12,11 @@ use oracle::{events, generate};
 const USAGE: &str = "compare [OPTION..] PATH..           these files, and the files in these folders but the .out ones: one line a file
 compare [OPTION..]                  generated files, up to the first difference
 compare [OPTION..] --recorded FOLDER  the answers N.out of FOLDER against the other side's on N.in
-compare [OPTION..] --calls [PATH..]   the same of single calls: call files, or sequences by chance, against target/bin/calls
+compare [OPTION..] --calls [PATH..]   the same of single calls: call files, or sequences by chance, against crates/calls/out/calls
 compare [OPTION..] --calls --recorded FOLDER  the answers N.answers of FOLDER against the other side's on N.calls
 
-  --events PROGRAM  the program on the other side, in place of target/bin/events
-  --calls-program PROGRAM  with --calls: the program on the other side, in place of target/bin/calls
+  --events PROGRAM  the program on the other side, in place of crates/events/out/events
+  --calls-program PROGRAM  with --calls: the program on the other side, in place of crates/calls/out/calls
   --model           the model on the other side
   --rust            the Rust on the other side: with --recorded
   --alone           with --calls: the Rust by itself, held to both orders of clearing; how many sequences or files fail
@@ -69,27 +69,6 @@ impl Program {
     fn new(command: Vec<PathBuf>) -> Program {
         let scratch = std::env::temp_dir().join(format!("oracle-compare-{}.in", std::process::id()));
         Program { command, scratch }
-    }
-
-    /// A program of the repository as `run` starts it: under the kit's loader and C library, elsewhere than on x86-64 under its emulator. Where
-    /// there is no kit it is started by itself.
-    fn proved(path: PathBuf) -> Program {
-        let rt = || {
-            let path = std::env::var_os("PATH")?;
-            let rt = std::env::split_paths(&path).map(|p| p.join("rt")).find(|p| p.is_file())?;
-            Some(rt.canonicalize().ok()?.parent()?.parent()?.to_path_buf())
-        };
-        let Some(kit) = std::env::var_os("RATTLE_HOME").map(PathBuf::from).or_else(rt) else {
-            return Program::new(vec![path]);
-        };
-        let tools = kit.join("on").join(std::env::consts::ARCH).join("toolchain");
-        let (loader, emulator) = (tools.join("lib/ld-linux-x86-64.so.2"), tools.join("bin/qemu-x86_64"));
-        if !loader.is_file() {
-            return Program::new(vec![path]);
-        }
-        let mut command = if emulator.is_file() { vec![emulator] } else { Vec::new() };
-        command.extend([loader, "--library-path".into(), tools.join("lib"), path]);
-        Program::new(command)
     }
 
     /// What it prints. What it says on descriptor 2 belongs to it, unless that only repeats the bad line.
@@ -318,15 +297,15 @@ fn main() {
         true => ("calls", "--calls-program", calls_program),
         false => ("events", "--events", program),
     };
-    let built = root.join("target/bin").join(name);
+    let built = root.join("crates").join(name).join("out").join(name);
     let other = match program {
         _ if use_model => Other::Model,
         _ if use_rust => Other::Rust,
         Some(path) if !path.is_file() => stop(&format!("no program {}", path.display())),
         Some(path) => Other::Program(Program::new(vec![path.canonicalize().unwrap_or(path)])),
-        None if built.is_file() => Other::Program(Program::proved(built)),
+        None if built.is_file() => Other::Program(Program::new(vec![built])),
         None => stop(&format!(
-            "target/bin/{name} is not built: `rt check {name}` in the repository builds it (or give {option} PROGRAM, or --model)"
+            "crates/{name}/out/{name} is not built: `rt run` in crates/{name} builds it (or give {option} PROGRAM, or --model)"
         )),
     };
     if let Some(folder) = recorded {
