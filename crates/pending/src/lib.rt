@@ -100,6 +100,7 @@ fn is_awaited(state: State) -> bool
 }
 
 impl PendingPacket {
+    #[tactic(auto, unfolding(neighbor::specs::NeighborRules::same_key))]
     fn has_key(self, iface: u8, addr: Ipv6Addr) -> bool
         ensures { result ≡ has_key (key iface addr) self }
     {
