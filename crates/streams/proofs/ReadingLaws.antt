@@ -1,9 +1,8 @@
 -- Laws of the buffer. Assumes nothing.
-use Rattle.std.proofs.Common.{◌≡◌, ℕ, suc, ◌+◌, ◌-◌, ◌<◌, ◌≤◌, Bool, true, false, cond, not, eqb, ltb, List, [], ◌∷◌, ◌++◌, length, get_or, take, drop, set, ℤ, pos, negsuc, sym, refl, ap, ◌∙◌, ap₂, add-one, arith, length-append, length-drop, length-set, take-append-drop, length-take-le, get_or-drop, take-suc, drop-drop, take-suc-set, drop-set-lt, to_z-of_z, w64, to_z, of_z, ltb-false, ltb-true, le-ltb, lt-ltb, ne_eqb}
+use Rattle.std.proofs.Common.{◌≡◌, ℕ, suc, ◌+◌, ◌-◌, ◌<◌, ◌≤◌, Bool, true, false, cond, eqb, ltb, List, [], ◌∷◌, ◌++◌, length, get_or, take, drop, set, sym, refl, ap, ◌∙◌, ap₂, add-one, arith, length-append, length-drop, length-set, take-append-drop, length-take-le, get_or-drop, take-suc, drop-drop, take-suc-set, drop-set-lt, ltb-false, ltb-true, le-ltb, lt-ltb, ne_eqb}
 use borrow.Author.Tests.{eqb-false}
-use lib.Signed.{lt_z, mag}
-use Rattle.io.specs.Counts.{clamp_len}
-use Rattle.libc.specs.Io.{Moved}
+use Rattle.std.specs.declared.io.Error.{Error as IoError}
+use Rattle.std.specs.Prelude.{Result, Ok, Err}
 use Rattle.streams.specs.Reading.{reader, count, in_hand, Fits, take_by, take_line, moved, more_of, Within, Reads, Refills, Answers, Course, answers, reads_on, ends, fails, Next}
 use Rattle.streams.specs.declared.reader.Line.TheVariants.{At, End, Long, Error}
 use Rattle.streams.specs.declared.reader.Line.{Line}
@@ -57,14 +56,6 @@ moved_length buf r f =
 
 -- ---- the next line of what is in hand
 
-pub not-true : (b : Bool) → not b ≡ true → b ≡ false
-not-true true p = sym p
-not-true false p = refl
-
-pub not-false : (b : Bool) → not b ≡ false → b ≡ true
-not-false true p = refl
-not-false false p = sym p
-
 module _ (ended : Bool) (buf : List ℕ) (r : Reader) (len : ℕ) (is : len ≡ index_of 10 (in_hand buf r)) where
   pub too_long : 4096 < len → TooLong r ≡ take_line ended buf r
   unfolding take_line
@@ -112,50 +103,13 @@ part_short ended buf r p =
 
 -- ---- what a read answered
 
-pub not_read : (z : ℤ) (end : ℕ) → lt_z z (pos 0) ≡ true → NotRead ≡ more_of z end
-not_read (pos k) end e = absurd (omega (arith, ltb-true k 0 e))
-not_read (negsuc k) end e = refl
-
-no_false : true ≡ false → ⊥
-no_false p = let z : ◌≡◌ {A = ℕ} 0 1 = cc in omega arith
-
-pub no_more : (z : ℤ) (end len came : ℕ) → Within len z → lt_z z (pos 0) ≡ false → came ≡ clamp_len z len → came ≡ 0 → NoMore ≡ more_of z end
-no_more (pos k) end len came m e c h = let w = m.moved in let q : k ≡ 0 = omega arith in rw q refl
-no_more (negsuc k) end len came m e c h = absurd (no_false e)
-
-pub read : (z : ℤ) (end len came : ℕ) → Within len z → lt_z z (pos 0) ≡ false → came ≡ clamp_len z len → (came ≡ 0 → ⊥) → Read (end + came) ≡ more_of z end
-read (pos k) end len came m e c h =
-    let w = m.moved in
-    let q : came ≡ k = omega arith in
-    let n : k ≡ 0 → ⊥ = λ i. h (omega arith) in
-    rw (q, ne_eqb k 0 n) refl
-read (negsuc k) end len came m e c h = absurd (no_false e)
-
 more_by : (k end n : ℕ) (b : Bool) → eqb k 0 ≡ b → Read n ≡ cond b NoMore (Read (end + k)) → (end < n) × (n ≡ end + k)
 more_by k end n true e p = absurd (let z : ◌≡◌ {A = ℕ} 0 1 = cc in omega arith)
 more_by k end n false e p = let z = eqb-false k 0 e in let q : n ≡ end + k = cc in (omega arith, q)
 
-read_by : (z : ℤ) (len end n : ℕ) → end ≤ len → Within (len - end) z → Read n ≡ more_of z end → (end < n) × (n ≤ len)
-read_by (pos k) len end n l m p = let w = more_by k end n (eqb k 0) refl p in (w.0, omega (arith, w.1, m.moved))
-read_by (negsuc k) len end n l m p = absurd (let z : ◌≡◌ {A = ℕ} 0 1 = cc in omega arith)
-
--- a number that passes through a register
-pub back : (z : ℤ) → mag z < 9223372036854775808 → to_z w64 (of_z w64 z) ≡ z
-back z h = to_z-of_z (record { sfits = h })
-
-pub within_as : {n m : ℕ} {y z : ℤ} → y ≡ z → n ≡ m → Moved m z → Within n y
-within_as e l p = record { moved = rw (e, l) p }
-
-pub free : (buf : List ℕ) (end : ℕ) → length buf - end ≡ length (take (length buf - end) (drop end buf))
-free buf end = sym (length-take-le (length buf - end) (drop end buf) (rw length-drop (omega arith)))
-
-pub free_as : (buf' buf : List ℕ) (end : ℕ) → length buf' ≡ length buf
-    → length (take (length buf' - end) (drop end buf')) ≡ length (take (length buf - end) (drop end buf))
-free_as buf' buf end e = let a = free buf' end in let b = free buf end in omega arith
-
-pub free_fits : (buf' buf : List ℕ) (end : ℕ) → length buf' ≡ length buf → end ≤ length buf → length buf < 18446744073709551616
-    → end + length (take (length buf' - end) (drop end buf')) < 18446744073709551616
-free_fits buf' buf end e l h = let a = free buf' end in omega arith
+read_by : (z : Result ℕ IoError) (len end n : ℕ) → end ≤ len → Within (len - end) z → Read n ≡ more_of z end → (end < n) × (n ≤ len)
+read_by (Ok k) len end n l m p = let w = more_by k end n (eqb k 0) refl p in (w.0, omega (arith, w.1, m.moved))
+read_by (Err e) len end n l m p = absurd (let z : ◌≡◌ {A = ℕ} 0 1 = cc in omega arith)
 
 pub refilled : (buf : List ℕ) (r : Reader) {b : List ℕ} {m : More} {buf' : List ℕ} → b ≡ moved buf r.start r.end → Reads b (count r) m buf'
     → Refills buf r m buf'

@@ -1,8 +1,8 @@
 -- The lines of the input. Document 01: "A bad line N (from 1; also one .. above 4,096 bytes ..)"; the last line may do without its newline, and
 -- no newline is among the 4,096 bytes (docs/DECISIONS.md, 3). No contract can say which bytes a read brings: what is said here is what becomes
 -- of the bytes, whatever they are. Assumes nothing.
-use Rattle.std.specs.Prelude.{◌≡◌, ℕ, ◌+◌, ◌-◌, ◌<◌, ◌≤◌, Bool, true, false, cond, List, ◌++◌, length, take, drop, ℤ, pos, negsuc, ◌==◌, nat_lt}
-use Rattle.libc.specs.Io.{Moved}
+use Rattle.std.specs.Prelude.{◌≡◌, ℕ, ◌+◌, ◌-◌, ◌<◌, ◌≤◌, Bool, true, false, cond, List, ◌++◌, length, take, drop, ◌==◌, nat_lt, Result, Ok, Err, IfOk}
+use Rattle.std.specs.declared.io.Error.{Error as IoError}
 use Rattle.text.specs.Fields.{index_of}
 use Rattle.streams.specs.declared.reader.Reader.{Reader}
 use Rattle.streams.specs.declared.reader.More.{More}
@@ -48,20 +48,20 @@ take_line ended buf r = take_by ended r (index_of 10 (in_hand buf r))
 abbrev pub moved : List ℕ → ℕ → ℕ → List ℕ
 moved s start end = take (end - start) (drop start s) ++ drop (end - start) s
 
--- what the system answers a read: that it failed, or how many bytes came, at most as many as there was room for
-pub record Within (room : ℕ) (got : ℤ) : Type 0 where
-  pub moved : Moved room got
+-- what a reader answers a read: that it failed, or how many bytes came, at most as many as there was room for
+pub record Within (room : ℕ) (got : Result ℕ IoError) : Type 0 where
+  pub moved : IfOk got (λ n. n ≤ room)
 
 -- the place after the bytes that came to place end; none come at the end of the input
-abbrev pub more_of : ℤ → ℕ → More
-more_of (negsuc k) end = NotRead
-more_of (pos k) end = cond (k == 0) NoMore (Read (end + k))
+abbrev pub more_of : Result ℕ IoError → ℕ → More
+more_of (Err e) end = NotRead
+more_of (Ok k) end = cond (k == 0) NoMore (Read (end + k))
 
--- what stood before end stays; how many bytes came, or that none did, is as the system answered
+-- what stood before end stays; how many bytes came, or that none did, is as the reader answered
 pub record Reads (buf : List ℕ) (end : ℕ) (m : More) (buf' : List ℕ) : Type 0 where
   pub same : length buf' ≡ length buf
   pub kept : take end buf' ≡ take end buf
-  pub got : ℤ
+  pub got : Result ℕ IoError
   pub within : Within (length buf - end) got
   pub told : m ≡ more_of got end
 

@@ -1,7 +1,9 @@
-// The lines of a descriptor, read in blocks into a lent buffer.
+// The lines of a reader, read in blocks into a lent buffer.
 ghost use Rattle.std.specs.Prelude.{◌≡◌, ◌+◌, ◌-◌, ◌<◌, ◌≤◌, length};
 ghost use Rattle.streams.specs.Reading.{take_line, moved, more_of, Within, Reads, Refills, Fits, Next};
 
+use std::io;
+use std::io::Read;
 use text::scan::find;
 
 // A line's most bytes, its newline not among them.
@@ -87,43 +89,40 @@ fn compact(buf: &mut [u8], start: usize, end: usize)
 }
 
 // What a read into `free`, which begins at place end, answered.
-fn more_of(got: isize, end: usize, free: &[u8]) -> More
+fn more_of(got: io::Result<usize>, end: usize, free: &[u8]) -> More
     requires within { Within (length free.now) got }
     requires free_bound { end + length free.now < 18446744073709551616 }
     ensures { result ≡ more_of got end }
 {
-    if got < 0 {
-        return More::Error;
+    match got {
+        Err(_) => More::Error,
+        Ok(0) => More::End,
+        Ok(came) => More::Read(end + came),
     }
-    let came = io::count(got, free);
-    if came == 0 {
-        return More::End;
-    }
-    More::Read(end + came)
 }
 
 // One read, into what is free after end.
-fn read_more(fd: i32, buf: &mut [u8], end: usize) -> More
+fn read_more<R: Read>(input: &mut R, buf: &mut [u8], end: usize) -> More
     requires { end ≤ length buf.old }
     ensures { Reads buf.old end result buf.new }
 {
-    let got = libc::read(fd, &mut buf[end..]);
+    let got = input.read(&mut buf[end..]);
     more_of(got, end, &buf[end..])
 }
 
 // One read, after what is in hand and was moved to the front.
-fn refill(fd: i32, buf: &mut [u8], reader: Reader) -> More
+fn refill<R: Read>(input: &mut R, buf: &mut [u8], reader: Reader) -> More
     requires { Fits buf.old reader }
     ensures { Refills buf.old reader result buf.new }
 {
     let start = reader.start;
     let end = reader.end;
     compact(buf, start, end);
-    read_more(fd, buf, end - start)
+    read_more(input, buf, end - start)
 }
 
 // Each turn but the last two reads at least one byte more of the line.
-fn line_from(fd: i32, buf: &mut [u8], first: Reader) -> Line
+fn line_from<R: Read>(input: &mut R, buf: &mut [u8], first: Reader) -> Line
     requires { Fits buf.old first }
     ensures { Next buf.old first result buf.new }
 {
@@ -138,7 +137,7 @@ fn line_from(fd: i32, buf: &mut [u8], first: Reader) -> Line
             Taken::Part => {}
         }
         let in_hand = reader.end - reader.start;
-        match refill(fd, buf, reader) {
+        match refill(input, buf, reader) {
             More::Error => return Line::Error,
             More::End => {
                 reader = Reader {
@@ -155,7 +154,7 @@ fn line_from(fd: i32, buf: &mut [u8], first: Reader) -> Line
 }
 
 // The next line, without its newline, which the last line may lack.
-pub fn next_line(fd: i32, buf: &mut [u8], reader: Reader) -> Line
+pub fn next_line<R: Read>(input: &mut R, buf: &mut [u8], reader: Reader) -> Line
     ensures { Next buf.old reader result buf.new }
 {
     if reader.start > reader.end {
@@ -167,5 +166,5 @@ pub fn next_line(fd: i32, buf: &mut [u8], reader: Reader) -> Line
     if buf.len() <= LONGEST {
         return Line::Error;
     }
-    line_from(fd, buf, reader)
+    line_from(input, buf, reader)
 }

@@ -1,20 +1,23 @@
 // Where output goes, and how much of it went there.
 ghost use Rattle.std.specs.Prelude.{◌≡◌, ◌<◌, ◌≤◌, length};
-ghost use Rattle.streams.specs.Writing.{fresh, counted_by, Done};
+ghost use Rattle.streams.specs.Writing.{fresh, counted_by, is_written, Done};
 
+use std::io::{Read, Write};
 use text::scan::is;
 
-// Output is written to a descriptor, or held to what one has.
-#[derive(Clone, Copy)]
-pub enum Target {
-    Write(i32),
-    Compare(i32),
+// What is compared at a time.
+const BLOCK: usize = 65536;
+
+// Output is written to a writer, or held to what a reader has.
+#[derive(Drop)]
+pub enum Target<W, R> {
+    Write(W),
+    Compare(R),
 }
 
-// The fields are its own, so that nobody else can count for it.
+// The field is its own, so that nobody else can count for it.
 #[derive(Clone, Copy)]
 pub struct Sink {
-    target: Target,
     // how many bytes were handed over and went well, modulo 2^64
     handed: u64,
 }
@@ -27,17 +30,16 @@ pub struct Emitted {
 }
 
 impl Sink {
-    pub fn new(target: Target) -> Sink
-        ensures { result ≡ fresh target }
+    pub fn new() -> Sink
+        ensures { result ≡ fresh }
     {
-        Sink { target, handed: 0 }
+        Sink { handed: 0 }
     }
 }
 
-// Whether the next bytes of fd are these; they are read into room.
-fn reads_as(fd: i32, room: &mut [u8], bytes: &[u8]) -> bool {
-    let got = io::read_full(fd, room);
-    is(&room[..got], bytes)
+// Whether the next bytes of held are these; they are read into room.
+fn reads_as<R: Read>(held: &mut R, room: &mut [u8], bytes: &[u8]) -> bool {
+    held.read_exact(room).is_ok() && is(room, bytes)
 }
 
 fn smaller(left: usize, room: usize) -> usize
@@ -48,7 +50,7 @@ fn smaller(left: usize, room: usize) -> usize
 }
 
 // The same for any number of bytes, as many at a time as room holds.
-fn matches(fd: i32, room: &mut [u8], bytes: &[u8]) -> bool
+fn matches<R: Read>(held: &mut R, room: &mut [u8], bytes: &[u8]) -> bool
     requires { 0 < length room.old }
 {
     let mut at = 0;
@@ -56,7 +58,7 @@ fn matches(fd: i32, room: &mut [u8], bytes: &[u8]) -> bool
         let left = bytes.len() - at;
         let size = smaller(left, room.len());
         let to = at + size;
-        if !reads_as(fd, &mut room[..size], &bytes[at..to]) {
+        if !reads_as(held, &mut room[..size], &bytes[at..to]) {
             return false;
         }
         at = to;
@@ -65,44 +67,45 @@ fn matches(fd: i32, room: &mut [u8], bytes: &[u8]) -> bool
 }
 
 // Writes all the bytes, or reads as many and compares.
-fn hand_over(target: Target, bytes: &[u8]) -> bool {
+fn hand_over<W: Write, R: Read>(target: &mut Target<W, R>, bytes: &[u8]) -> bool
+    ensures { is_written target.new ≡ is_written target.old }
+{
     match target {
-        Target::Write(fd) => io::write_all(fd, bytes),
-        Target::Compare(fd) => {
-            let mut room = io::large_buffer();
-            matches(fd, &mut room, bytes)
+        Target::Write(output) => output.write_all(bytes).is_ok(),
+        Target::Compare(held) => {
+            let mut room = [0u8; BLOCK];
+            matches(held, &mut room, bytes)
         }
     }
 }
 
 // Hands the bytes over, and counts them if that went well: a caller that passes over `ok` has the count against it.
-pub fn emit(sink: Sink, bytes: &[u8]) -> Emitted
-    ensures { result.sink ≡ counted_by result.ok (length bytes.now) sink }
+pub fn emit<W: Write, R: Read>(sink: Sink, target: &mut Target<W, R>, bytes: &[u8]) -> Emitted
+    ensures counted { result.sink ≡ counted_by result.ok (length bytes.now) sink }
+    ensures kind { is_written target.new ≡ is_written target.old }
 {
-    let target = sink.target;
     if hand_over(target, bytes) {
-        let handed = std::num::wrapping_add_u64(sink.handed, bytes.len() as u64);
+        let handed = sink.handed.wrapping_add(bytes.len() as u64);
         return Emitted {
             ok: true,
-            sink: Sink { target, handed },
+            sink: Sink { handed },
         };
     }
     Emitted { ok: false, sink }
 }
 
-fn at_end(fd: i32) -> bool {
+fn at_end<R: Read>(held: &mut R) -> bool {
     let mut one = [0u8; 1];
-    let got = libc::read(fd, &mut one);
-    got == 0
+    matches!(held.read(&mut one), Ok(0))
 }
 
 // After the last output: whether what it is compared with ends there too.
-pub fn done(sink: Sink) -> bool
-    ensures { Done sink.target result }
+pub fn done<W: Write, R: Read>(target: &mut Target<W, R>) -> bool
+    ensures told { Done target.old result }
+    ensures kind { is_written target.new ≡ is_written target.old }
 {
-    let target = sink.target;
     match target {
         Target::Write(_) => true,
-        Target::Compare(fd) => at_end(fd),
+        Target::Compare(held) => at_end(held),
     }
 }
