@@ -243,26 +243,6 @@ module _ (s message w rest : List ℕ) (cut : Cut s w rest) where
     kind_none q r t =
         record { is = rw cut.is (sym (other_kind (length message) w rest p q r t)); bytes = rw none refl; ready = tt }
 
--- ---- the words
-
-pub word_up : (s : List ℕ) → same_bytes_is s up ≡ true → Good Up ≡ word_of s
-word_up s a = rw a
-
-pub word_down : (s : List ℕ) → same_bytes_is s up ≡ false → same_bytes_is s down ≡ true → Good Down ≡ word_of s
-word_down s a b = rw (a, b)
-
-pub word_poll : (s : List ℕ) → same_bytes_is s up ≡ false → same_bytes_is s down ≡ false → same_bytes_is s poll ≡ true → Good Poll ≡ word_of s
-word_poll s a b c = rw (a, b, c)
-
-pub word_sweep : (s : List ℕ) → same_bytes_is s up ≡ false → same_bytes_is s down ≡ false → same_bytes_is s poll ≡ false → same_bytes_is s sweep ≡ true → Good Sweep ≡ word_of s
-word_sweep s a b c d = rw (a, b, c, d)
-
-pub word_off : (s : List ℕ) → same_bytes_is s up ≡ false → same_bytes_is s down ≡ false → same_bytes_is s poll ≡ false → same_bytes_is s sweep ≡ false → same_bytes_is s off ≡ true → Good Off ≡ word_of s
-word_off s a b c d e = rw (a, b, c, d, e)
-
-pub word_none : (s : List ℕ) → same_bytes_is s up ≡ false → same_bytes_is s down ≡ false → same_bytes_is s poll ≡ false → same_bytes_is s sweep ≡ false → same_bytes_is s off ≡ false → Bad ≡ word_of s
-word_none s a b c d e = rw (a, b, c, d, e)
-
 -- ---- fill's line
 
 fill_bad_by : (x : Address) → fill_with x NoHw ≡ Bad

@@ -1,5 +1,5 @@
 -- The header lines `mac HARDWARE`, `addresses N`, `ADDRESS LENGTH` and `events N`, by their fields. Assumes nothing.
-use Rattle.std.specs.Prelude.{ℕ, cond, List, [], ◌∷◌, ltb}
+use Rattle.std.specs.Prelude.{cond, List, [], ◌∷◌, ltb}
 use Rattle.wire.specs.Rfc4291.{same_bytes_is}
 use Rattle.text.specs.Fields.{Field}
 use Rattle.text.specs.Decimal.{number_of}

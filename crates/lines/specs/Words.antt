@@ -1,5 +1,5 @@
 -- The words of the input, in ASCII, and how many fields a line has. Assumes nothing.
-use Rattle.std.specs.Prelude.{ℕ, List, [], ◌∷◌}
+use Rattle.std.specs.Prelude.{List, [], ◌∷◌}
 use Rattle.text.specs.Fields.{Field}
 
 abbrev pub mac : Field
