@@ -67,7 +67,7 @@ pub record Determined : Type 0 where
   pub next_option_lem : (msg : List ℕ) (at : ℕ) → OneAnswer (Steps msg at)
   pub write : (msg : List ℕ) (at : ℕ) (bs : List ℕ) → OneAnswerLeaving (Wrote msg at bs)
   -- of a part that is handed back, its bytes and where it begins: all that a program can read of it
-  pub «data» : (option r r' : Bor (List ℕ)) → HandsBack option r → HandsBack option r' → (now r ≡ now r') × (r.ref_ptr ≡ r'.ref_ptr)
+  pub «data» : (option r r' : Bor (List ℕ)) → HandsBack option r → HandsBack option r' → (r.now ≡ r'.now) × (r.ref_ptr ≡ r'.ref_ptr)
   -- neighbor
   pub lookup : (c : NeighborCache) (iface : ℕ) (addr : Ipv6Addr) → OneAnswer (LookedUp c iface addr)
   pub start_resolution : (c : NeighborCache) (iface : ℕ) (addr : Ipv6Addr) → OneAnswer (StartTo c iface addr)
