@@ -84,16 +84,16 @@ module _ (hw : HardwareAddress) (a : Ipv6Cidr) where
 
   gone_poll : (x : Check) (s : Slaac) (t : IfaceAddrs) (r : Routes) (i : ℕ) (up : Bool) (buf : List ℕ) (k : Clock) → x ≡ Fine → Based hw a s t
       → AllEnded hw a k.now s → has a (addrs_of (poll_by x s t r i up hw buf k).polled.addrs) ≡ false
-  gone_poll (Fails why) s t r i up buf k fine g l = absurd (refused_fine why fine)
-  gone_poll Fine s t r i up buf k fine g l =
-      poll_cases (λ q. has a (addrs_of q.polled.addrs) ≡ false) s t r i up hw buf k
+  gone_poll (Fails why) s t r i linked buf k fine g l = absurd (refused_fine why fine)
+  gone_poll Fine s t r i linked buf k fine g l =
+      poll_cases (λ q. has a (addrs_of q.polled.addrs) ≡ false) s t r i linked hw buf k
       (λ e.
-      gone_sync (with_discovery s u.discovery) t r i k.now u.clock u.answer (turn_forward s.discovery (sender_in up t) buf k).now
+      gone_sync (with_discovery s u.discovery) t r i k.now u.clock u.answer (turn_forward s.discovery (sender_in linked t) buf k).now
       (record { once = g.once; off = g.off; prefix = g.prefix }) l)
       (λ e. g.off e)
     where
       u : Turn
-      u = turn_in s t up buf k
+      u = turn_in s t linked buf k
 
   gone_step : {i : ℕ} {x y : Host} {now : Instant} → Step i hw x (poll now) y → TakesPoll i now → Based hw a x.slaac x.addrs → AllEnded hw a now x.slaac
       → has a (addrs_of y.addrs) ≡ false

@@ -8,7 +8,6 @@ use mathlib.Core.Path.{◌≡◌, refl, ap, ◌∙◌}
 use native.Mathlib.Omega.{arith}
 use Rattle.claims.proofs.Lists.{append-nil, length_last_first}
 use Rattle.claims.proofs.Walk.{keep, walk}
-use Rattle.claims.specs.Calls.{at}
 use Rattle.neighbor.specs.NeighborRules.{Table}
 use Rattle.neighbor.specs.declared.Entry.{Entry}
 use Rattle.sweep.specs.SweepRules.{due, spent, probed, nothing as no_probe, happens, probe, TableEvents as Events, and_then, events_from}

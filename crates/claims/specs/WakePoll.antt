@@ -44,8 +44,8 @@ end_of (EndsAt t) = t ∷ []
 end_of Forever = []
 
 abbrev pub ends_of : {A : Type 0} → (A → Expiry) → List A → List Instant
-ends_of end [] = []
-ends_of end (x ∷ xs) = end_of (end x) ++ ends_of end xs
+ends_of expiry [] = []
+ends_of expiry (x ∷ xs) = end_of (expiry x) ++ ends_of expiry xs
 
 -- the time of the next solicitation
 abbrev pub retry_of : Phase → List Instant
