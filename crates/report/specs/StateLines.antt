@@ -21,7 +21,6 @@ use Rattle.iface.specs.declared.route.RouteOrigin.{RouteOrigin}
 use Rattle.iface.specs.declared.route.RouteOrigin.TheVariants.{Manual as Added, Slaac as Learned}
 use Rattle.iface.specs.declared.route.Route.{Route}
 use Rattle.neighbor.specs.declared.State.{State}
-use Rattle.neighbor.specs.declared.State.TheVariants.{Started, Incomplete, Reachable, Stale}
 use Rattle.neighbor.specs.declared.NeighborState.{NeighborState}
 use Rattle.neighbor.specs.declared.NeighborState.TheVariants.{Incomplete as Resolving, Reachable as Known, Stale as Expired}
 use Rattle.neighbor.specs.declared.Entry.{Entry}

@@ -1,0 +1,7 @@
+use Rattle.text.proofs.PlaceLaws.{chain}
+use Rattle.report.specs.AnswerLines.{off_line}
+use Rattle.report.proofs.answer.off.Goals as goal
+
+pub returns : goal.returns
+unfolding off_line
+returns c = chain c.number-after_time.ensures c.word.ensures

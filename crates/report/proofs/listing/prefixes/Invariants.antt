@@ -1,0 +1,10 @@
+use Rattle.std.proofs.Common.{[], ◌-◌}
+use Rattle.report.specs.StateLines.{prefix_line}
+use Rattle.report.proofs.ListingLaws.{Listing}
+use Rattle.report.proofs.listing.prefixes.Given as goal
+
+abbrev pub invariant-loop-i : goal.invariant-loop-i
+invariant-loop-i l = Listing 4 prefix_line [] l.slaac.prefixes l.slaac.prefix_count l.count l.i l.initial.out l.initial.next l.next l.out
+
+abbrev pub decreases-loop-i : goal.decreases-loop-i
+decreases-loop-i l = l.count - l.i
