@@ -5,22 +5,15 @@ use lib.Dec.{eqb}
 use mathlib.Core.Bool.{Bool, true, false, cond, true≢false}
 use mathlib.Core.Path.{◌≡◌, refl, ap, ap₂, sym, ◌∙◌}
 use native.Mathlib.Omega.{arith}
-use Rattle.slaac.specs.DiscoveryRules.{due_phase, due, retry_at, sent, solicitation, begun, restarted, fresh, turned_on_is, turn_by, TurnedTo}
-use Rattle.slaac.specs.Fields.{with_discovery}
+use Rattle.slaac.specs.DiscoveryRules.{due_phase, due, retry_at, sent, solicitation}
 use Rattle.slaac.specs.declared.Discovery.{Discovery}
-use Rattle.wire.specs.declared.error.Outcome.TheVariants.{Refused, Done}
 use Rattle.slaac.specs.declared.Phase.TheVariants.{Discovering}
 use Rattle.slaac.specs.declared.Phase.{Phase}
-use Rattle.slaac.specs.declared.Slaac.{Slaac}
 use Rattle.slaac.specs.declared.Solicitation.{Solicitation}
 use Rattle.time.specs.ClockRules.{scheduled_of}
 use Rattle.time.specs.declared.Answer.{Answer}
 use Rattle.time.specs.declared.Clock.{Clock}
 use Rattle.time.specs.declared.Instant.{Instant}
-use Rattle.wire.specs.Refusals.{check_number}
-use Rattle.wire.specs.declared.error.Check.TheVariants.{Fine, Refused as Fails}
-use Rattle.wire.specs.declared.error.Check.{Check}
-use Rattle.wire.specs.declared.error.Refusal.{Refusal}
 
 module _ (d : Discovery) (k : Clock) where
   pub due_none : d.num_solicitations ≡ 0 → ◌≡◌ {A = Answer} (record { expired = false; clock = k }) (due d k)
@@ -68,44 +61,3 @@ module _ (d : Discovery) (k : Clock) where
     pub turn_early : q.expired ≡ false → ◌≡◌ {A = Solicitation} (record { due = false; discovery = d; clock = q.clock }) (solicitation d k)
     unfolding solicitation
     turn_early h = simp (answered false h) (ap (λ (x : Answer). record { due = false; discovery = d; clock = x.clock }) g)
-
--- Calls that may be refused
-
-module _ (check : Check) (s s' : Slaac) where
-  pub change_refused : (why : Refusal) → check ≡ Fails why → TurnedTo check s s' (record { slaac = s; outcome = Refused why })
-  change_refused why e =
-      record {
-        is = ap (λ (x : Check). turn_by x s s') (sym e);
-        number = ap check_number (sym e);
-      }
-
-  pub change_done : (t : Slaac) → check ≡ Fine → t ≡ s' → TurnedTo check s s' (record { slaac = t; outcome = Done })
-  change_done t e f =
-      record {
-        is = ap (λ (x : Slaac). record { slaac = x; outcome = Done }) f ∙ ap (λ (x : Check). turn_by x s s') (sym e);
-        number = ap check_number (sym e);
-      }
-
-pub restart_on : (s : Slaac) → s.on ≡ true → with_discovery s begun ≡ restarted s
-restart_on s e = go s.on e (with_discovery s begun) s
-  where
-    go : (b : Bool) → b ≡ true → (x y : Slaac) → x ≡ cond b x y
-    go b e x y = simp e
-
-pub restart_off : (s : Slaac) → s.on ≡ false → s ≡ restarted s
-restart_off s e = go s.on e (with_discovery s begun) s
-  where
-    go : (b : Bool) → b ≡ false → (x y : Slaac) → y ≡ cond b x y
-    go b e x y = simp e
-
-pub on_stays : (s : Slaac) → s.on ≡ true → s ≡ turned_on_is s
-on_stays s e = go s.on e s (fresh true)
-  where
-    go : (b : Bool) → b ≡ true → (x y : Slaac) → x ≡ cond b x y
-    go b e x y = simp e
-
-pub on_anew : (s t : Slaac) → s.on ≡ false → t ≡ fresh true → t ≡ turned_on_is s
-on_anew s t e f = f ∙ go s.on e s (fresh true)
-  where
-    go : (b : Bool) → b ≡ false → (x y : Slaac) → y ≡ cond b x y
-    go b e x y = simp e

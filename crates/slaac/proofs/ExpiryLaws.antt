@@ -1,11 +1,11 @@
 -- Laws of the times of what was learned.
 use Prim.Native.Nat.{ℕ}
 use lib.ListN.{length, take}
-use mathlib.Core.Bool.{false, ◌||◌}
+use mathlib.Core.Bool.{false}
 use mathlib.Core.List.{List}
 use mathlib.Core.Path.{◌≡◌, ap, ◌∙◌}
 use Rattle.slaac.proofs.LearnedLaws.{prefixed, routered}
-use Rattle.slaac.specs.ExpiryRules.{ask_also, ask_prefix, ask_router, sync_due, prefix_gone, router_gone, leave_expired}
+use Rattle.slaac.specs.ExpiryRules.{ask_prefix, ask_router, sync_due, prefix_gone, router_gone, leave_expired}
 use Rattle.slaac.specs.Fields.{with_prefixes, with_routers, with_sync}
 use Rattle.slaac.specs.LearnedRules.{prefixes_of, routers_of}
 use Rattle.slaac.specs.declared.Prefix.{Prefix}
@@ -13,15 +13,9 @@ use Rattle.slaac.specs.declared.Router.{Router}
 use Rattle.slaac.specs.declared.Slaac.{Slaac}
 use Rattle.table.proofs.Laws.{Made}
 use Rattle.table.specs.Table.{filled, kept, fold_over}
-use Rattle.time.specs.ClockRules.{asked_end}
 use Rattle.time.specs.declared.Answer.{Answer}
 use Rattle.time.specs.declared.Clock.{Clock}
-use Rattle.time.specs.declared.Expiry.{Expiry}
 use Rattle.time.specs.declared.Instant.{Instant}
-
-pub also : (a : Answer) (u : Expiry) (r : Answer) → r ≡ asked_end a.clock u
-    → ◌≡◌ {A = Answer} (record { expired = a.expired || r.expired; clock = r.clock }) (ask_also a u)
-also a u r e = ap (λ (x : Answer). record { expired = a.expired || x.expired; clock = x.clock }) e
 
 pub all_asked : (s : Slaac) (k : Clock) (a b : Answer)
     → a ≡ fold_over ask_prefix (record { expired = s.sync_required; clock = k }) (prefixes_of s) → b ≡ fold_over ask_router a (routers_of s)
@@ -40,10 +34,6 @@ prefixes_still s₀ s l e = ap (λ (z : Slaac). prefixed z l z.prefix_count z.sy
 
 abbrev pub OnlyRouters : Slaac → Slaac → Type 0
 OnlyRouters s₀ s = s ≡ routered s₀ s.routers s₀.router_count s₀.sync_required
-
-pub routers_still : (s₀ s : Slaac) (l : List Router) → OnlyRouters s₀ s
-    → OnlyRouters s₀ (routered s l s.router_count s.sync_required)
-routers_still s₀ s l e = ap (λ (z : Slaac). routered z l z.router_count z.sync_required) e
 
 abbrev pub left : Slaac → List Prefix → ℕ → List Router → ℕ → Slaac
 left s ps w rs x = with_sync (with_routers (with_prefixes s ps w) rs x) false

@@ -1,26 +1,20 @@
 -- Laws of what is learned.
-use Prim.Native.Nat.{ℕ, ◌+◌, ◌<◌, ◌≤◌, min}
+use Prim.Native.Nat.{ℕ, ◌+◌, ◌<◌, ◌≤◌}
 use borrow.Author.Tests.{lt-ltb, le-ltb}
 use lib.Dec.{ltb}
-use lib.ListN.{length, take, drop, get_or, set, drop_of_length-le}
+use lib.ListN.{length, get_or, set}
 use mathlib.Core.Bool.{Bool, true, false, ◌||◌, not}
 use mathlib.Core.List.{List, [], ◌∷◌}
 use mathlib.Core.Path.{◌≡◌, refl, ap, sym, ◌∙◌}
 use native.Mathlib.Omega.{arith}
 use Rattle.slaac.specs.Fields.{with_prefixes, with_routers, with_sync}
-use Rattle.slaac.specs.LearnedRules.{no_prefix, no_router, prefixes_of, routers_of, is_prefix, is_router, cidr_of, prefix_of, put_over, prefix_ends, router_ends, having_prefixes, having_routers, add_prefix, expire_prefix, process_prefix_is, add_router, expire_router, process_router_is, is_skipped, heard_phase, heard, PrefixListed, RouterListed}
+use Rattle.slaac.specs.LearnedRules.{no_prefix, no_router, prefixes_of, routers_of, is_prefix, is_router, cidr_of, prefix_of, put_over, prefix_ends, router_ends, having_prefixes, having_routers, add_prefix, expire_prefix, process_prefix_is, add_router, expire_router, process_router_is, is_skipped}
 use Rattle.table.specs.Table.{if_room}
-use Rattle.slaac.specs.declared.Discovery.{Discovery}
-use Rattle.slaac.specs.declared.Phase.{Phase}
 use Rattle.slaac.specs.declared.Prefix.{Prefix}
-use Rattle.slaac.specs.declared.PrefixAt.TheVariants.{Nothing, Is}
-use Rattle.slaac.specs.declared.PrefixAt.{PrefixAt}
 use Rattle.slaac.specs.declared.Router.{Router}
-use Rattle.slaac.specs.declared.RouterAt.TheVariants.{Nothing as NoRouter, Is as IsRouter}
-use Rattle.slaac.specs.declared.RouterAt.{RouterAt}
 use Rattle.slaac.specs.declared.Slaac.{Slaac}
 use Rattle.ndisc.specs.declared.ndiscoption.PrefixInformation.{PrefixInformation}
-use Rattle.table.proofs.Laws.{Made, Finding, counted, entries_from, at_entry, at_none, found_over, found_any, absent_end, absent_stays, absent_any}
+use Rattle.table.proofs.Laws.{Made, Finding, found_over, found_any, absent_end, absent_stays, absent_any}
 use Rattle.time.specs.TimeRules.{add_of}
 use Rattle.time.specs.declared.Duration.{Duration}
 use Rattle.time.specs.declared.Instant.{Instant}
@@ -61,18 +55,6 @@ room size es x k e h = let l : length es < size = omega arith in simp (lt-ltb (l
 
 no_room : {A : Type 0} (size : ℕ) (es : List A) (x : A) (k : ℕ) → k ≡ length es → size ≤ k → if_room size es x ≡ []
 no_room size es x k e h = let l : size ≤ length es = omega arith in simp (le-ltb (length es) size l)
-
--- What stands at an index, as a list of none or one
-module _ {A : Type 0} (d : A) (s : List A) (n size k i : ℕ) (full : length s ≡ size) (e : k ≡ min n size) where
-  one_there : i < k → get_or s i d ∷ [] ≡ take 1 (drop i (take n s))
-  one_there h =
-      let l : i < length (take n s) = omega (arith, counted s n size k full e) in
-      ap (λ (es : List A). take 1 es) (sym (entries_from d s n i l))
-
-  none_there : k ≤ i → [] ≡ take 1 (drop i (take n s))
-  none_there h =
-      let l : length (take n s) ≤ i = omega (arith, counted s n size k full e) in
-      ap (λ (es : List A). take 1 es) (sym (drop_of_length-le (take n s) l))
 
 -- Prefixes
 
@@ -122,23 +104,6 @@ module _ (s : Slaac) (a : Ipv6Cidr) (now : Instant) (k i : ℕ) (inv : ExpiresPr
   prefix_none h =
       prefixes_made s _ _ k _ _ (absent_stays no_prefix inv h refl) (none_alone s.sync_required _ (absent_any no_prefix inv h))
 
-module _ (s : Slaac) (k i : ℕ) (full : length s.prefixes ≡ 4) (e : k ≡ min s.prefix_count 4) where
-  pub prefix_listed : i < k → PrefixListed s i (Is (get_or s.prefixes i no_prefix))
-  prefix_listed h =
-      record {
-        is = at_entry {B = PrefixAt} no_prefix (λ x. Is x) Nothing s.prefixes s.prefix_count 4 k i full e h;
-        number = refl;
-        shows = one_there no_prefix s.prefixes s.prefix_count 4 k i full e h;
-      }
-
-  pub prefix_unlisted : k ≤ i → PrefixListed s i Nothing
-  prefix_unlisted h =
-      record {
-        is = at_none {B = PrefixAt} no_prefix (λ x. Is x) Nothing s.prefixes s.prefix_count 4 k i full e h;
-        number = refl;
-        shows = none_there no_prefix s.prefixes s.prefix_count 4 k i full e h;
-      }
-
 -- Routers
 
 -- SLAAC with other slots, another count, another request
@@ -187,23 +152,6 @@ module _ (s : Slaac) (a : Ipv6Addr) (now : Instant) (k i : ℕ) (inv : ExpiresRo
   router_none h =
       routers_made s _ _ k _ _ (absent_stays no_router inv h refl) (none_alone s.sync_required _ (absent_any no_router inv h))
 
-module _ (s : Slaac) (k i : ℕ) (full : length s.routers ≡ 2) (e : k ≡ min s.router_count 2) where
-  pub router_listed : i < k → RouterListed s i (IsRouter (get_or s.routers i no_router))
-  router_listed h =
-      record {
-        is = at_entry {B = RouterAt} no_router (λ x. IsRouter x) NoRouter s.routers s.router_count 2 k i full e h;
-        number = refl;
-        shows = one_there no_router s.routers s.router_count 2 k i full e h;
-      }
-
-  pub router_unlisted : k ≤ i → RouterListed s i NoRouter
-  router_unlisted h =
-      record {
-        is = at_none {B = RouterAt} no_router (λ x. IsRouter x) NoRouter s.routers s.router_count 2 k i full e h;
-        number = refl;
-        shows = none_there no_router s.routers s.router_count 2 k i full e h;
-      }
-
 -- Step 2, one option
 
 module _ (now : Instant) (s : Slaac) (o : PrefixInformation) where
@@ -232,10 +180,3 @@ module _ (now : Instant) (s : Slaac) (a : Ipv6Addr) (d : Duration) where
   pub router_expired : (r : Slaac) → d.0 ≤ 0 → r ≡ expire_router s a now → r ≡ process_router_is now s a d
   unfolding process_router_is
   router_expired r h g = simp (le-ltb 0 d.0 h) g
-
--- Step 4
-
-pub heard_same : (d : Discovery) (p : Phase) → d.phase ≡ p → heard_phase p ≡ p → d ≡ heard d
-heard_same d p e f =
-    let q : d.phase ≡ heard_phase d.phase = e ∙ (sym f ∙ ap heard_phase (sym e)) in
-    ap (λ (x : Phase). record { phase = x; num_solicitations = d.num_solicitations }) q
