@@ -10,8 +10,7 @@ use Rattle.iface.specs.declared.addr.IfaceAddrs.{IfaceAddrs}
 use Rattle.iface.specs.declared.route.Routes.{Routes}
 use Rattle.wire.specs.Refusals.{outcome_number, iface_check, check_number}
 use Rattle.slaac.specs.DiscoveryRules.{fresh}
-use Rattle.wire.specs.declared.error.Outcome.{Outcome}
-use Rattle.wire.specs.declared.error.Outcome.TheVariants.{Refused, Done}
+use Rattle.wire.specs.declared.error.Outcome.TheVariants.{Done}
 use Rattle.slaac.specs.declared.Slaac.{Slaac}
 use Rattle.neighbor.specs.CacheCalls.{clear_in, change_by, ClearTo}
 use Rattle.neighbor.specs.declared.Changed.{Changed}
@@ -21,32 +20,17 @@ use Rattle.pending.specs.QueueRules.{on_iface}
 use Rattle.pending.specs.declared.Handles.{Handles}
 use Rattle.pending.specs.declared.PendingQueue.{PendingQueue}
 use Rattle.pending.specs.declared.Purged.{Purged}
-use Rattle.autoconf.proofs.PollLaws.{on_yes, on_no}
+use Rattle.autoconf.proofs.PollLaws.{on_yes}
 use Rattle.autoconf.specs.OffRules.{turned_off, cleared_cache, cleared_queue, cleared_handles, off_now, left_alone, off_by, TurnedOffTo}
 use Rattle.autoconf.specs.declared.TurnedOff.{TurnedOff}
-use Rattle.wire.specs.declared.error.Check.TheVariants.{Fine, Refused as Fails}
+use Rattle.wire.specs.declared.error.Check.TheVariants.{Fine}
 use Rattle.wire.specs.declared.error.Check.{Check}
-use Rattle.wire.specs.declared.error.Refusal.{Refusal}
 
 module _ (s : Slaac) (t : IfaceAddrs) (r : Routes) (c : NeighborCache) (q : PendingQueue) (iface : ℕ) where
-  -- the code's answer where everything is as it came
-  alone : (o : Outcome) (hs : Handles) → hs ≡ handles_of [] → turned_off s t r c q hs o ≡ left_alone s t r c q o
-  alone o hs n = ap (λ (x : Handles). turned_off s t r c q x o) n
-
-  pub off_refused : (why : Refusal) → iface_check iface ≡ Fails why → (hs : Handles) → hs ≡ handles_of []
-      → TurnedOffTo s t r c q iface (turned_off s t r c q hs (Refused why))
-  off_refused why e hs n =
-      record { is = alone (Refused why) hs n ∙ ap (λ (k : Check). off_by k s t r c q iface) (sym e); number = ap check_number (sym e) }
-
   module _ (e : iface_check iface ≡ Fine) where
     fine : (x : TurnedOff) → x ≡ off_by Fine s t r c q iface → outcome_number x.outcome ≡ 0 → TurnedOffTo s t r c q iface x
     fine x f n =
         record { is = f ∙ ap (λ (k : Check). off_by k s t r c q iface) (sym e); number = n ∙ ap check_number (sym e) }
-
-    pub off_already : s.on ≡ false → (hs : Handles) → hs ≡ handles_of [] → TurnedOffTo s t r c q iface (turned_off s t r c q hs Done)
-    off_already o hs n =
-        fine (turned_off s t r c q hs Done)
-        (on_no s.on (off_now t r c q iface) (left_alone s t r c q Done) (turned_off s t r c q hs Done) o (alone Done hs n)) refl
 
     module _ (o : s.on ≡ true) (z : Slaac) (f : z ≡ fresh false) (x : Cleared) (g : x ≡ clear_addrs t) (r' : Routes)
         (h : r' ≡ with_routes r (clear_routes iface (routes_of r))) where

@@ -23,16 +23,15 @@ use Rattle.autoconf.specs.Answers.{poll_number, poll_sent}
 use Rattle.wire.specs.Refusals.{time_check, check_number}
 use Rattle.autoconf.specs.PollRules.{sender_of, solicit_from, answer_of, turn_for, buffer_by, sent_by, turn_of, buffer_of, sent_of, TurnTo, polled, sync_turn, after_turn, sender_in, poll_on, poll_by, poll_buffer, poll_message, PolledTo}
 use Rattle.autoconf.specs.SyncRules.{sync_addrs, sync_routes}
-use Rattle.autoconf.specs.declared.PollAnswer.TheVariants.{Refused, Off, Quiet, Solicited, NoRoom}
+use Rattle.autoconf.specs.declared.PollAnswer.TheVariants.{Off, Quiet, Solicited, NoRoom}
 use Rattle.autoconf.specs.declared.PollAnswer.{PollAnswer}
 use Rattle.autoconf.specs.declared.PolledAt.{PolledAt}
 use Rattle.autoconf.specs.declared.Turn.{Turn}
 use Rattle.time.specs.declared.Answer.{Answer}
 use Rattle.time.specs.declared.Clock.{Clock}
 use Rattle.time.specs.declared.Instant.{Instant}
-use Rattle.wire.specs.declared.error.Check.TheVariants.{Fine, Refused as Fails}
+use Rattle.wire.specs.declared.error.Check.TheVariants.{Fine}
 use Rattle.wire.specs.declared.error.Check.{Check}
-use Rattle.wire.specs.declared.error.Refusal.{Refusal}
 use Rattle.wire.specs.declared.ethernet.HardwareAddress.{HardwareAddress}
 use Rattle.wire.specs.declared.ipv6.Ipv6Addr.{Ipv6Addr}
 
@@ -152,16 +151,6 @@ pub on_no : {A : Type 0} (b : Bool) (x y p : A) → b ≡ false → p ≡ y → 
 on_no b x y p e f = simp e f
 
 module _ (s : Slaac) (t : IfaceAddrs) (r : Routes) (iface : ℕ) (up : Bool) (hw : HardwareAddress) (buf : List ℕ) (k : Clock) where
-  pub poll_refused : (why : Refusal) → time_check k.now iface ≡ Fails why
-      → PolledTo s t r iface up hw buf k (polled s t r k (Refused why)) buf
-  poll_refused why e =
-      record {
-        is = ap (λ (c : Check). poll_by c s t r iface up hw buf k) (sym e);
-        number = ap check_number (sym e);
-        sends = ap (λ (c : Check). poll_message c s t up hw buf k) (sym e);
-        leaves = ap (λ (c : Check). poll_buffer c s t up hw buf k) (sym e);
-      }
-
   module _ (e : time_check k.now iface ≡ Fine) where
     -- by the checks, what is left of the promise
     fine : (p : PolledAt) (buf' : List ℕ) → p ≡ poll_by Fine s t r iface up hw buf k → poll_number p.polled.answer ≡ 0
@@ -174,12 +163,6 @@ module _ (s : Slaac) (t : IfaceAddrs) (r : Routes) (iface : ℕ) (up : Bool) (hw
           sends = m ∙ ap (λ (c : Check). poll_message c s t up hw buf k) (sym e);
           leaves = g ∙ ap (λ (c : Check). poll_buffer c s t up hw buf k) (sym e);
         }
-
-    pub poll_off : s.on ≡ false → PolledTo s t r iface up hw buf k (polled s t r k Off) buf
-    poll_off o =
-        fine (polled s t r k Off) buf
-        (on_no s.on (poll_on s t r iface up hw buf k) (polled s t r k Off) (polled s t r k Off) o refl) refl
-        (on_no s.on (sent_of s.discovery (sender_in up t) hw buf k) [] [] o refl) (on_no s.on (buffer_of s.discovery (sender_in up t) hw buf k) buf buf o refl)
 
     pub poll_on_lem : (source : Source) (u : Turn) (p : PolledAt) (buf' : List ℕ) → s.on ≡ true → source ≡ first_local (addrs_of t)
         → TurnTo s.discovery (sender_of up source) hw buf k u buf' → p.polled.answer ≡ u.answer → p ≡ after_turn u s t r iface hw k.now

@@ -19,7 +19,7 @@ use Rattle.iface.specs.declared.route.Routes.{Routes}
 use Rattle.slaac.specs.declared.Prefix.{Prefix}
 use Rattle.slaac.specs.declared.Router.{Router}
 use Rattle.autoconf.specs.SyncRules.{preferred_of, sync_formed, sync_prefix, sync_router}
-use Rattle.table.proofs.Laws.{Made, take_count, counted, Finding, finding, find_next, found_over, found_stays, absent_end, absent_stays}
+use Rattle.table.proofs.Laws.{Made, take_count, counted, Finding, find_next, found_over, found_stays, absent_end, absent_stays}
 use Rattle.time.specs.ClockRules.{is_after}
 use Rattle.time.specs.declared.Expiry.TheVariants.{At}
 use Rattle.time.specs.declared.Instant.{Instant}
@@ -39,10 +39,6 @@ pub record Putting {A : Type 0} (test : A → Bool) (f : A → List A) (x : A) (
   pub same : s ≡ s₀
   pub count : m ≡ n
   pub find : Finding 8 test f (if_room 8 (take n s) x) s n n j
-
-pub putting : {A : Type 0} (test : A → Bool) (f : A → List A) (x : A) (s : List A) (n k : ℕ) → length s ≡ 8 → n ≡ min k 8
-    → Putting test f x s n s n 0
-putting test f x s n k full e = record { same = refl; count = refl; find = finding 8 _ _ _ s n n full (omega arith) }
 
 module _ {A : Type 0} (d : A) {test : A → Bool} {f : A → List A} {x : A} {s₀ : List A} {n : ℕ} {s : List A} {m j : ℕ}
     (inv : Putting test f x s₀ n s m j) where
