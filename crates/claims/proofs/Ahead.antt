@@ -8,7 +8,7 @@ use mathlib.Core.Path.{◌≡◌, refl, sym, ◌∙◌, subst}
 use native.Mathlib.Omega.{arith}
 use Rattle.claims.proofs.Clocks.{expiry_forward, due_forward, turn_forward, fine_time}
 use Rattle.claims.proofs.Keeps.{turn_cases, turn_in, poll_cases}
-use Rattle.claims.specs.Clocks.{Sweep, swept, swept_at, Poll, polled, polled_at_lem}
+use Rattle.claims.specs.Clocks.{Sweep, swept, swept_at, Poll, polled, polled_at}
 use Rattle.claims.specs.Wake.{Asleep}
 use Rattle.autoconf.specs.PollRules.{turn_of, sender_in, sync_turn, poll_by}
 use Rattle.autoconf.specs.declared.PollAnswer.{PollAnswer}
@@ -192,5 +192,5 @@ pub poll_ahead : {i : ℕ} {up : Bool} {hw : HardwareAddress} {s : Slaac} {t : I
     → Poll i up hw s t r buf k p buf' k' → Asleep k.deadline k.now → Asleep k'.deadline k.now
 poll_ahead {i = i} {up = up} {hw = hw} (polled s t r buf k p buf' k' h) a =
     subst (λ (m : Clock). Asleep m.deadline k.now) (sym h.clock) (polled_ahead (time_check k.now i) s t r i up hw buf k refl a)
-poll_ahead {i = i} {up = up} {hw = hw} (polled_at_lem s t r buf k p buf' h) a =
+poll_ahead {i = i} {up = up} {hw = hw} (polled_at s t r buf k p buf' h) a =
     subst (λ (q : PolledAt). Asleep q.clock.deadline k.now) (sym h.is) (polled_ahead (time_check k.now i) s t r i up hw buf k refl a)

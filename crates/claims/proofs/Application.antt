@@ -348,7 +348,7 @@ never_goes = record {
   dropped_address = λ e t c own m. drop_keeps e own t c m;
   cleared_addresses = λ e t own m. clear_keeps e own t m;
   dropped_route = λ e t i via own m. drop_route_keeps e own t i via m;
-  cleared_routes_lem = λ e t i own m. clear_routes_keep e own t i m;
+  cleared_routes = λ e t i own m. clear_routes_keep e own t i m;
   put_address = λ e t c p own m. put_keeps e own t c p m;
   put_route_lem = λ e t i via end own m. put_route_keeps e own t i via end m;
 }

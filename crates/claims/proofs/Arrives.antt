@@ -18,7 +18,7 @@ use Rattle.claims.specs.Arrives.{FormsWith, Made, AllEnded, AllValid, has_place,
 use Rattle.claims.specs.Examples.{mac, router, network, link_local, formed, header, offer, up, ra, end}
 use Rattle.claims.specs.Lists.{All, Some, Member}
 use Rattle.claims.specs.Traces.{ms, neighbour}
-use Rattle.claims.specs.Early.{Host, HostCall, advertise, poll, Step, Run, advertised, polled, polled_at_lem, none, one_more, TakesPoll, stands}
+use Rattle.claims.specs.Early.{Host, HostCall, advertise, poll, Step, Run, advertised, polled, polled_at, none, one_more, TakesPoll, stands}
 use Rattle.iface.specs.AddressRules.{addrs_of, is_addr, is_from_slaac, slaac_addr, refreshed, gone, put_addr, drop_addr, first_local}
 use Rattle.iface.specs.RouteRules.{put_route, drop_route}
 use Rattle.iface.specs.declared.addr.IfaceAddr.{IfaceAddr}
@@ -99,7 +99,7 @@ module _ (hw : HardwareAddress) (a : Ipv6Cidr) where
       → has a (addrs_of y.addrs) ≡ false
   gone_step {i} (polled x up buf buf' k k' r p) fine g l =
       subst (λ (q : Polled). has a (addrs_of q.addrs) ≡ false) (sym p.is) (gone_poll (time_check k.now i) x.slaac x.addrs x.routes i up buf k fine g l)
-  gone_step {i} (polled_at_lem x up buf buf' k r p) fine g l =
+  gone_step {i} (polled_at x up buf buf' k r p) fine g l =
       subst (λ (q : PolledAt). has a (addrs_of q.polled.addrs) ≡ false) (sym p.is) (gone_poll (time_check k.now i) x.slaac x.addrs x.routes i up buf k fine g l)
 
 -- An address that is there stays while its prefixes are valid, and comes if there is room

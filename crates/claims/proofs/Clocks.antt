@@ -12,7 +12,7 @@ use Rattle.claims.proofs.Keeps.{turn_cases, turn_in, sync_after, poll_cases}
 use Rattle.claims.proofs.Lists.{all_weaken}
 use Rattle.claims.proofs.Sweep.{ample}
 use Rattle.claims.specs.Calls.{sweep, effect_by}
-use Rattle.claims.specs.Clocks.{Sweep, swept, swept_at, Poll, polled, polled_at_lem, WakesFor, WakesForState, Clocks}
+use Rattle.claims.specs.Clocks.{Sweep, swept, swept_at, Poll, polled, polled_at, WakesFor, WakesForState, Clocks}
 use Rattle.claims.specs.Lists.{All}
 use Rattle.claims.specs.Watch.{later}
 use Rattle.iface.specs.declared.addr.IfaceAddrs.{IfaceAddrs}
@@ -148,14 +148,14 @@ poll_forward Fine s t r i up hw buf k =
 
 -- No later than what is still to come
 
-one_waits_lem : (now : Instant) → now.0 ≤ 2 ^ 62 → (k : Clock) (s : State) → k.now ≡ now → WakesForState now (expire_clock_state k s).deadline s
-one_waits_lem now late k Started same = subst (λ (t : Instant). NotLater (scheduled_of k (due_from k.now)).deadline (At t)) (ap due_from same ∙ ample_due) (forward_law.kept k (due_from k.now))
+one_waits : (now : Instant) → now.0 ≤ 2 ^ 62 → (k : Clock) (s : State) → k.now ≡ now → WakesForState now (expire_clock_state k s).deadline s
+one_waits now late k Started same = subst (λ (t : Instant). NotLater (scheduled_of k (due_from k.now)).deadline (At t)) (ap due_from same ∙ ample_due) (forward_law.kept k (due_from k.now))
   where
     ample_due : due_from now ≡ later now 1000
     ample_due = λ i. record { 0 = ample now late i }
-one_waits_lem now late k (Incomplete p t) same = λ h. forward_law.covers k t (rw (lt-leb t.0 k.now.0 (subst (λ (n : Instant). n.0 < t.0) (sym same) h)))
-one_waits_lem now late k (Reachable a t) same = λ h. forward_law.covers k t (rw (lt-leb t.0 k.now.0 (subst (λ (n : Instant). n.0 < t.0) (sym same) h)))
-one_waits_lem now late k (Stale a) same = tt
+one_waits now late k (Incomplete p t) same = λ h. forward_law.covers k t (rw (lt-leb t.0 k.now.0 (subst (λ (n : Instant). n.0 < t.0) (sym same) h)))
+one_waits now late k (Reachable a t) same = λ h. forward_law.covers k t (rw (lt-leb t.0 k.now.0 (subst (λ (n : Instant). n.0 < t.0) (sym same) h)))
+one_waits now late k (Stale a) same = tt
 
 waits_sooner : (now : Instant) (a b : Deadline) (s : State) → NotLater a b → WakesForState now b s → WakesForState now a s
 waits_sooner now a b Started h w = after a b (At (later now 1000)) h w
@@ -168,7 +168,7 @@ unfolding expire_clocks
 pass_waits now late k [] same = tt
 pass_waits now late k (e ∷ t) same = (
   waits_sooner now (fold_over expire_clock (expire_clock k e) t).deadline (expire_clock k e).deadline e.state (pass_forward (expire_clock k e) t).deadline
-      (one_waits_lem now late k e.state same),
+      (one_waits now late k e.state same),
   pass_waits now late (expire_clock k e) t ((expiry_forward k e.state).now ∙ same),
 )
 
@@ -203,7 +203,7 @@ module _ {i : ℕ} {up : Bool} {hw : HardwareAddress} where
 
       same_buffer : poll_buffer (time_check k.now i) s t up hw buf k ≡ buffer_of s.discovery (sender_in up t) hw buf k
       same_buffer = rw (ok, on)
-  poll_took (polled_at_lem s t r buf k p buf' h) ok on =
+  poll_took (polled_at s t r buf k p buf' h) ok on =
       record { answers = ap (λ (q : PolledAt). q.polled) (h.is ∙ is); clock = ap (λ (q : PolledAt). q.clock) (h.is ∙ is); buffer = h.leaves ∙ same_buffer }
     where
       is : poll_by (time_check k.now i) s t r i up hw buf k ≡ poll_on s t r i up hw buf k
@@ -233,10 +233,10 @@ all_asked s k now same =
     )
 
 -- the next solicitation
-abbrev retry_of_lem : Phase → Instant → Instant
-retry_of_lem Start t = t
-retry_of_lem (Discovering retry) t = retry
-retry_of_lem Maintaining t = t
+abbrev retry_of : Phase → Instant → Instant
+retry_of Start t = t
+retry_of (Discovering retry) t = retry
+retry_of Maintaining t = t
 
 some_left : (n : ℕ) → 0 < n → eqb n 0 ≡ false
 some_left n h = ne_eqb n 0 (λ q. absurd (omega arith))
@@ -254,7 +254,7 @@ sent_waits : (d : Discovery) (k : Clock) (retry : Instant) → (sent d k).discov
 unfolding sent
 sent_waits d k retry p n =
     rw (some_left (d.num_solicitations - 1) n)
-    (subst (λ (t : Instant). NotLater (scheduled_of k (retry_at k)).deadline (At t)) (ap (λ (q : Phase). retry_of_lem q retry) p) (forward_law.kept k (retry_at k)))
+    (subst (λ (t : Instant). NotLater (scheduled_of k (retry_at k)).deadline (At t)) (ap (λ (q : Phase). retry_of q retry) p) (forward_law.kept k (retry_at k)))
 
 solicit_waits : (d : Discovery) (k : Clock) (retry : Instant) → (solicitation d k).discovery.phase ≡ Discovering retry → 0 < (solicitation d k).discovery.num_solicitations
     → NotLater (solicitation d k).clock.deadline (At retry)

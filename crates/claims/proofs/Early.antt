@@ -224,7 +224,7 @@ ends p q same = rw same (reaches_itself p.valid_until)
 pub not_early : NotEarly
 not_early = record {
   address = λ i hw a v x y cs r h l q. (good_run v hw a r q (record { there = h; long = l })).there;
-  address_of_lem =
+  address_of =
       λ i hw a p x y cs r h o q.
       (good_run p.valid_until hw a r (all_weaken (Silent i p.valid_until hw a) (Harmless i p.valid_until hw a) (silent_harmless i p.valid_until hw a) cs q)
       (record {

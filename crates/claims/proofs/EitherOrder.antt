@@ -221,12 +221,12 @@ off_is_lem Fine m r c q i = go m.slaac.on
     go true = refl
     go false = refl
 
-off_twice_lem : (x : Check) (s : Slaac) (t : IfaceAddrs) (r : Routes) (c : NeighborCache) (q : PendingQueue) (i : ℕ) (y : TurnedOff) → y ≡ off_by x s t r c q i
+off_twice : (x : Check) (s : Slaac) (t : IfaceAddrs) (r : Routes) (c : NeighborCache) (q : PendingQueue) (i : ℕ) (y : TurnedOff) → y ≡ off_by x s t r c q i
     → off_by x y.slaac y.addrs y.routes y.cache y.queue i
     ≡ turned_off y.slaac y.addrs y.routes y.cache y.queue no_handle y.outcome
 unfolding off_now
-off_twice_lem (Fails why) s t r c q i y h = rw h refl
-off_twice_lem Fine s t r c q i y h = go s.on refl y h
+off_twice (Fails why) s t r c q i y h = rw h refl
+off_twice Fine s t r c q i y h = go s.on refl y h
   where
     go : (b : Bool) → s.on ≡ b → (y : TurnedOff) → y ≡ cond b (off_now t r c q i) (left_alone s t r c q Done)
         → off_by Fine y.slaac y.addrs y.routes y.cache y.queue i
@@ -428,7 +428,7 @@ either_order = record {
   off_leaves_cache = λ r c q a m x h went. rw (h.is ∙ off_is_lem (iface_check a) m r c q a, went) refl;
   routes_order = routes_order;
   routes_stay = λ r c q a m x off h. rw (h.is ∙ off_is_lem (iface_check a) m r c q a) (off_stays (iface_check a) m.slaac r a off);
-  off_twice_lem = λ r c q a m x y h. h.1.is ∙ off_twice_lem (iface_check a) m.slaac m.addrs r c q a x h.0.is;
+  off_twice = λ r c q a m x y h. h.1.is ∙ off_twice (iface_check a) m.slaac m.addrs r c q a x h.0.is;
   not_the_slots = not_the_slots;
   same_routes = record { entries = refl; count = refl };
   unequal_routes =

@@ -191,11 +191,11 @@ abbrev LeftBy : Bool → PendingQueue → ℕ → TurnedOff → Type 0
 LeftBy went q i x =
     (packets x.queue ≡ kept (cleared_by_is (turn_off i went)) (packets q)) × (handle_list x.handles ≡ map handle_of (dropped (cleared_by_is (turn_off i went)) (packets q)))
 
-turned_off_lem : (x : Check) (s : Slaac) (t : IfaceAddrs) (r : Routes) (c : NeighborCache) (q : PendingQueue) (i : ℕ)
+turned_off : (x : Check) (s : Slaac) (t : IfaceAddrs) (r : Routes) (c : NeighborCache) (q : PendingQueue) (i : ℕ)
     → LeftBy (went_by x s.on (clear_addrs t).any) q i (off_by x s t r c q i)
 unfolding off_now
-turned_off_lem (Fails why) s t r c q i = (cleared_off false q i, handed_off false q i)
-turned_off_lem Fine s t r c q i = go s.on
+turned_off (Fails why) s t r c q i = (cleared_off false q i, handed_off false q i)
+turned_off Fine s t r c q i = go s.on
   where
     go : (b : Bool) → LeftBy (cond b (clear_addrs t).any false) q i (cond {A = TurnedOff} b (off_now t r c q i) (left_alone s t r c q Done))
     go true = (cleared_off (clear_addrs t).any q i, handed_off (clear_addrs t).any q i)
@@ -239,8 +239,8 @@ stepped (on_cache_lem c q call a d e h) =
 stepped (turns_off c q s t r i x h) =
     record {
       cache = (cache-follows (cache-off c s t r q i x h)).1;
-      queue = ap (λ (w : TurnedOff). packets w.queue) h.is ∙ (turned_off_lem (iface_check i) s t r c q i).0;
-      gives = ap (λ (w : TurnedOff). handle_list w.handles) h.is ∙ (turned_off_lem (iface_check i) s t r c q i).1;
+      queue = ap (λ (w : TurnedOff). packets w.queue) h.is ∙ (turned_off (iface_check i) s t r c q i).0;
+      gives = ap (λ (w : TurnedOff). handle_list w.handles) h.is ∙ (turned_off (iface_check i) s t r c q i).1;
     }
 stepped (pushes c q i a g r h) =
     record { cache = refl; queue = ap (λ (w : Pushed). packets w.queue) h.is ∙ pushed_to (iface_check i) q (packet (key i a) g); gives = h.gives }

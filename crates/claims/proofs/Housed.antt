@@ -17,7 +17,7 @@ use Rattle.claims.proofs.Polling.{due_asked, refused_fine}
 use Rattle.claims.proofs.Standing.{same_cidr_lem, steps_prefixes, process_all}
 use Rattle.claims.specs.Arrives.{FormsWith}
 use Rattle.claims.specs.Cleared.{Fresh, FormOne}
-use Rattle.claims.specs.Early.{Host, HostCall, poll, Step, polled, polled_at_lem, Run, TakesPoll}
+use Rattle.claims.specs.Early.{Host, HostCall, poll, Step, polled, polled_at, Run, TakesPoll}
 use Rattle.claims.specs.Housed.{HasAddressOrFull, Housed}
 use Rattle.claims.specs.Lists.{All, Some, Apart}
 use Rattle.autoconf.specs.AdvertRules.{options_in, prefix_options, step2, steps2to4}
@@ -430,7 +430,7 @@ module _ (hw : HardwareAddress) where
   settled : {i : ℕ} {now : Instant} {x y : Host} → Step i hw x (poll now) y → TakesPoll i now → x.slaac.on ≡ true → y.slaac.sync_required ≡ false
   settled {i} (polled x up buf buf' k k' r p) fine on =
       subst (λ (q : Polled). q.slaac.sync_required ≡ false) (sym p.is) (settled_turn x.slaac x.addrs x.routes i up buf k (time_check k.now i) fine on)
-  settled {i} (polled_at_lem x up buf buf' k r p) fine on =
+  settled {i} (polled_at x up buf buf' k r p) fine on =
       subst (λ (q : PolledAt). q.polled.slaac.sync_required ≡ false) (sym p.is)
       (settled_turn x.slaac x.addrs x.routes i up buf k (time_check k.now i) fine on)
 

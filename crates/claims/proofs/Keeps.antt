@@ -3,7 +3,7 @@ use Prim.Native.Nat.{ℕ}
 use mathlib.Core.Bool.{Bool, true, false, cond}
 use mathlib.Core.List.{List}
 use mathlib.Core.Path.{◌≡◌, refl, sym, subst}
-use Rattle.claims.specs.Early.{Host, HostCall, advertise, poll, add_addr, add_route, turn_off, Step, advertised, polled, polled_at_lem, restarted, turned_on, addr_added, route_added, turned_off_lem, polled_elsewhere, polled_at_elsewhere, off_elsewhere_lem, Run, none, one_more, TakesPoll, Takes}
+use Rattle.claims.specs.Early.{Host, HostCall, advertise, poll, add_addr, add_route, turn_off, Step, advertised, polled, polled_at, restarted, turned_on, addr_added, route_added, turned_off, polled_elsewhere, polled_at_elsewhere, off_elsewhere_lem, Run, none, one_more, TakesPoll, Takes}
 use Rattle.claims.specs.Lists.{All}
 use Rattle.autoconf.specs.AdvertRules.{message_check, steps2to4, message_by, call_by}
 use Rattle.autoconf.specs.OffRules.{off_now, left_alone, off_by}
@@ -170,7 +170,7 @@ module _ {i : ℕ} {hw : HardwareAddress} (allowed : HostCall → Type 0) (P : S
       subst (λ (q : Polled). P q.slaac q.addrs q.routes) (sym p.is)
       (poll_keeps P (time_check k.now i) x.slaac x.addrs x.routes i up hw buf k (λ d. keeps.discovery x.slaac x.addrs x.routes d h)
       (λ u taken on g. keeps.syncs u x.addrs x.routes k.now ok taken on g) h)
-  keep_step (polled_at_lem x up buf buf' k r p) ok h =
+  keep_step (polled_at x up buf buf' k r p) ok h =
       subst (λ (q : PolledAt). P q.polled.slaac q.polled.addrs q.polled.routes) (sym p.is)
       (poll_keeps P (time_check k.now i) x.slaac x.addrs x.routes i up hw buf k (λ d. keeps.discovery x.slaac x.addrs x.routes d h)
       (λ u taken on g. keeps.syncs u x.addrs x.routes k.now ok taken on g) h)
@@ -182,7 +182,7 @@ module _ {i : ℕ} {hw : HardwareAddress} (allowed : HostCall → Type 0) (P : S
       (on_keeps P (iface_check i) x.slaac x.addrs x.routes (λ e. keeps.begins x.slaac x.addrs x.routes e h) h)
   keep_step (addr_added x c a p) ok h = keeps.adds x.slaac x.addrs x.routes c a ok p h
   keep_step (route_added x j c via a p) ok h = keeps.routes x.slaac x.addrs x.routes j c via a ok p h
-  keep_step (turned_off_lem x c q r p) ok h =
+  keep_step (turned_off x c q r p) ok h =
       subst (λ (w : TurnedOff). P w.slaac w.addrs w.routes) (sym p.is)
       (off_keeps P (iface_check i) x.slaac x.addrs x.routes c q i (keeps.clears x.slaac x.addrs x.routes ok h) h)
   keep_step (polled_elsewhere x j s t up hw' buf buf' k k' r n p) ok h =

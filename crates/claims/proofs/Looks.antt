@@ -286,6 +286,6 @@ looks = record {
   three = refl;
   above = refl;
   twice = refl;
-  too_late_lem = refl;
+  too_late = refl;
   nowhere = refl;
 }

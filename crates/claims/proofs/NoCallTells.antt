@@ -140,14 +140,14 @@ runs_same x y wake inbox received hw buf buf' buf'' budget r q s f g =
 
 -- Steps and runs
 
-with_cache_lem : {h g : Held} {c d : NeighborCache} → SameHeld h g → Same c d → SameHeld (cache_now h c) (cache_now g d)
-with_cache_lem s e = record { cache = e; queue = s.queue; routes = s.routes }
+with_cache : {h g : Held} {c d : NeighborCache} → SameHeld h g → Same c d → SameHeld (cache_now h c) (cache_now g d)
+with_cache s e = record { cache = e; queue = s.queue; routes = s.routes }
 
 with_queue : {h g : Held} {p q : PendingQueue} → SameHeld h g → SameQueue p q → SameHeld (queue_now h p) (queue_now g q)
 with_queue s e = record { cache = s.cache; queue = e; routes = s.routes }
 
-with_routes_lem : {h g : Held} {t u : Routes} → SameHeld h g → SameRoutes t u → SameHeld (routes_now h t) (routes_now g u)
-with_routes_lem s e = record { cache = s.cache; queue = s.queue; routes = e }
+with_routes : {h g : Held} {t u : Routes} → SameHeld h g → SameRoutes t u → SameHeld (routes_now h t) (routes_now g u)
+with_routes s e = record { cache = s.cache; queue = s.queue; routes = e }
 
 with_card : {h g : Held} {l : Slaac} {t : IfaceAddrs} → SameHeld h g → SameCard (card_of h l t) (card_of g l t)
 with_card s = record { slaac = refl; addrs = refl; routes = s.routes; cache = s.cache; queue = s.queue }
@@ -159,27 +159,27 @@ step_same : {h g h' g' : Held} {call : Call} {x y : Returned} → SameHeld h g �
 step_same s (looks_up h i a r p) (looks_up g j b q o) =
     (ap found (p.is ∙ (lookup_same h.cache g.cache s.cache (key_check i a) (key i a) ∙ sym o.is)), s)
 step_same s (starts h i a r p) (starts g j b q o) =
-    let e = by_change h.cache g.cache s.cache (key_check i a) (insert_state (key i a) Started) r q p o in (ap ended e.0, with_cache_lem s e.1)
+    let e = by_change h.cache g.cache s.cache (key_check i a) (insert_state (key i a) Started) r q p o in (ap ended e.0, with_cache s e.1)
 step_same s (fills h i a hw now r p) (fills g j b hw' now' q o) =
     let e = by_change h.cache g.cache s.cache (fill_check now i a hw) (insert_state (key i a) (lasting hw now)) r q p o in
-    (ap ended e.0, with_cache_lem s e.1)
+    (ap ended e.0, with_cache s e.1)
 step_same s (inserts h i a hw expires r p) (inserts g j b hw' expires' q o) =
     let e = by_change h.cache g.cache s.cache (fill_check expires i a hw) (insert_state (key i a) (Reachable hw expires)) r q p o in
-    (ap ended e.0, with_cache_lem s e.1)
+    (ap ended e.0, with_cache s e.1)
 step_same s (gets h i a r p) (gets g j b q o) =
     (ap gave_neighbor (p.is ∙ (get_same h.cache g.cache s.cache (iface_check i) (key i a) ∙ sym o.is)), s)
 step_same s (lists_neighbors h n r p) (lists_neighbors g m q o) =
     (ap gave_neighbor (p.is ∙ (at_same h.cache g.cache s.cache n ∙ sym o.is)), s)
 step_same s (removes h i a r p) (removes g j b q o) =
-    let e = removes_same h.cache g.cache i a r q s.cache p o in (ap gave_neighbor e.0, with_cache_lem s e.1)
+    let e = removes_same h.cache g.cache i a r q s.cache p o in (ap gave_neighbor e.0, with_cache s e.1)
 step_same s (clears h i r p) (clears g j q o) =
-    let e = by_change h.cache g.cache s.cache (iface_check i) (clear_iface i) r q p o in (ap ended e.0, with_cache_lem s e.1)
+    let e = by_change h.cache g.cache s.cache (iface_check i) (clear_iface i) r q p o in (ap ended e.0, with_cache s e.1)
 step_same s (sweeps h k k' i r p) (sweeps g l l' j q o) =
     let e = sweeps_same h.cache g.cache k k' l' i r q s.cache p o in
-    (λ n. swept (e.0 n) (e.1 n) (e.2 n) (e.3 n), with_cache_lem s e.4)
+    (λ n. swept (e.0 n) (e.1 n) (e.2 n) (e.3 n), with_cache s e.4)
 step_same s (sweeps_at h k i r p) (sweeps_at g l j q o) =
     let e = sweeps_at_same h.cache g.cache k i r q s.cache p o in
-    (λ n. swept (e.0 n) (e.1 n) (e.2 n) (e.3 n), with_cache_lem s e.4)
+    (λ n. swept (e.0 n) (e.1 n) (e.2 n) (e.3 n), with_cache s e.4)
 step_same s (pushes h i a n r p) (pushes g j b m q o) =
     let e = pushes_same h.queue g.queue i a n r q s.queue p o in (ap pushed e.0, with_queue s e.1)
 step_same s (releases h i a r p) (releases g j b q o) =
@@ -191,16 +191,16 @@ step_same s (purges_iface h i r p) (purges_iface g j q o) =
     let e = purges_same h.queue g.queue i r q s.queue p o in (λ n. purged (e.0 n) (e.1 n), with_queue s e.2)
 step_same s (lists_packets h n r p) (lists_packets g m q o) = (ap gave_packet (p.is ∙ (packet_same h.queue g.queue s.queue n ∙ sym o.is)), s)
 step_same s (adds_route h i to via r p) (adds_route g j to' via' q o) =
-    let e = adds_same h.routes g.routes i to via r q s.routes p o in (ap ended e.0, with_routes_lem s e.1)
+    let e = adds_same h.routes g.routes i to via r q s.routes p o in (ap ended e.0, with_routes s e.1)
 step_same s (lists_routes h n r p) (lists_routes g m q o) = (ap gave_route (p.is ∙ (route_same h.routes g.routes s.routes n ∙ sym o.is)), s)
 step_same s (hears h l i source msg now r p) (hears g l' j source' msg' now' q o) =
-    let e = adverts_same h.cache g.cache l i source msg now r q s.cache p o in (λ n. heard (e.0 n) (e.1 n), with_cache_lem s e.2)
+    let e = adverts_same h.cache g.cache l i source msg now r q s.cache p o in (λ n. heard (e.0 n) (e.1 n), with_cache s e.2)
 step_same s (polls h l t i up hw buf buf' k k' r p) (polls g m t' j up' hw' bug bug' l' k'' q o) =
     let e = polls_same h.routes g.routes l t i up hw buf buf' bug' k k' k'' r q s.routes p o in
-    (λ n. polled (e.0.0 n) (e.0.1 n) (e.0.2 n) (e.1 n) (e.2 n), with_routes_lem s e.0.3)
+    (λ n. polled (e.0.0 n) (e.0.1 n) (e.0.2 n) (e.1 n) (e.2 n), with_routes s e.0.3)
 step_same s (polls_at h l t i up hw buf buf' k r p) (polls_at g m t' j up' hw' bug bug' l' q o) =
     let e = polls_at_same h.routes g.routes l t i up hw buf buf' bug' k r q s.routes p o in
-    (λ n. polled (e.0.0 n) (e.0.1 n) (e.0.2 n) (e.1 n) (e.2 n), with_routes_lem s e.0.3)
+    (λ n. polled (e.0.0 n) (e.0.1 n) (e.0.2 n) (e.1 n) (e.2 n), with_routes s e.0.3)
 step_same s (turns_off h l t i x p) (turns_off g m t' j y o) =
     let e = offs_same l t h.routes g.routes h.cache g.cache h.queue g.queue i x y s.routes s.cache s.queue p o in
     (λ n. off (e.slaac n) (e.addrs n) (e.handles n) (e.outcome n), record { cache = e.cache; queue = e.queue; routes = e.routes })

@@ -49,7 +49,7 @@ order = record {
   sweep_poll = λ t iface. refl;
   advertisement = λ t iface source msg. refl;
   add_ip_addr = λ iface c es. refl;
-  add_route_lem = λ iface c via es. refl;
+  add_route = λ iface c via es. refl;
   on_an_interface = λ iface. refl;
   never_refused = never_refused;
 }

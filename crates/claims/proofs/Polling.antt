@@ -9,7 +9,7 @@ use native.Mathlib.Omega.{arith}
 use Rattle.claims.proofs.Clocks.{turn_forward}
 use Rattle.claims.proofs.Keeps.{turn_in, poll_cases}
 use Rattle.claims.proofs.Lists.{or_left, or_right}
-use Rattle.claims.specs.Early.{Host, poll, Step, polled, polled_at_lem, TakesPoll}
+use Rattle.claims.specs.Early.{Host, poll, Step, polled, polled_at, TakesPoll}
 use Rattle.claims.specs.Lists.{Some}
 use Rattle.iface.specs.declared.addr.IfaceAddrs.{IfaceAddrs}
 use Rattle.iface.specs.declared.route.Routes.{Routes}
@@ -120,6 +120,6 @@ module _ (hw : HardwareAddress) where
   synced_step {i} (polled x up buf buf' k k' r p) fine on due =
       let z = synced_poll (time_check k.now i) x.slaac x.addrs x.routes i up buf k fine on due in
       (ap (λ (q : Polled). q.addrs) p.is ∙ z.0, ap (λ (q : Polled). q.routes) p.is ∙ z.1)
-  synced_step {i} (polled_at_lem x up buf buf' k r p) fine on due =
+  synced_step {i} (polled_at x up buf buf' k r p) fine on due =
       let z = synced_poll (time_check k.now i) x.slaac x.addrs x.routes i up buf k fine on due in
       (ap (λ (q : PolledAt). q.polled.addrs) p.is ∙ z.0, ap (λ (q : PolledAt). q.polled.routes) p.is ∙ z.1)

@@ -243,9 +243,9 @@ added_route t iface c via r h =
 
 -- turning SLAAC off
 
-turned_off_lem : (s : Slaac) (t : IfaceAddrs) (r : Routes) (c : NeighborCache) (q : PendingQueue) (iface : ℕ) (x : TurnedOff)
+turned_off : (s : Slaac) (t : IfaceAddrs) (r : Routes) (c : NeighborCache) (q : PendingQueue) (iface : ℕ) (x : TurnedOff)
     → TurnedOffTo s t r c q iface x → Refuses (iface_rows iface) (outcome_number x.outcome) (NotTurnedOff s t r c q x)
-turned_off_lem s t r c q iface x h =
+turned_off s t r c q iface x h =
     refuses (iface_rows iface) (outcome_number x.outcome) (NotTurnedOff s t r c q x) h.number
     (λ why e.
     let is : x ≡ off_by (Refused why) s t r c q iface = h.is ∙ ap (λ (y : Check). off_by y s t r c q iface) e in
@@ -316,8 +316,8 @@ module _ (s : Slaac) (t : IfaceAddrs) (r : Routes) (iface : ℕ) (up : Bool) (hw
         → P (polled_by (time_check k.now iface) s.on) (poll_buffer (time_check k.now iface) s t up hw buf k) → P p buf'
     becomes P x = subst (λ (y : PolledAt). P y buf') (sym h.is) (subst (P (polled_by (time_check k.now iface) s.on)) (sym h.leaves) x)
 
-    polled_at_lem : Refuses (time_rows k.now iface) (poll_number p.polled.answer) (Unpolled s t r k buf p.polled p.clock buf')
-    polled_at_lem =
+    polled_at : Refuses (time_rows k.now iface) (poll_number p.polled.answer) (Unpolled s t r k buf p.polled p.clock buf')
+    polled_at =
         refuses (time_rows k.now iface) (poll_number p.polled.answer) (Left p buf') h.number
         (λ why e. becomes Left (left why (time_check k.now iface) e))
 
@@ -391,22 +391,22 @@ refusals =
       insert = λ c iface addr hw expires r h. changed (fill_rows expires iface addr hw) c (put_in c (key iface addr) (Reachable hw expires)) r h;
       get = λ c iface addr r h. refuses (iface_rows iface) (got_number_is r) NothingToChange h.number (λ why e. tt);
       remove = removed;
-      clear_iface_lem = λ c iface r h. changed (iface_rows iface) c (clear_in c iface) r h;
+      clear_iface = λ c iface r h. changed (iface_rows iface) c (clear_in c iface) r h;
       sweep_at = swept_at;
       sweep = swept;
       push = pushed;
       release = released;
-      purge_iface_lem = purged;
+      purge_iface = purged;
       add_ip_addr = added;
-      add_route_lem = added_route;
+      add_route = added_route;
       restart = λ s iface r h. turned (iface_rows iface) s (restarted s) r h;
       turn_on = λ s iface r h. turned (iface_rows iface) s (turned_on_is s) r h;
-      turn_off_lem = turned_off_lem;
+      turn_off = turned_off;
       advertisement = advertised_to;
-      poll_at = polled_at_lem;
+      poll_at = polled_at;
       poll =
           λ s t r iface up hw buf k p buf' k' h.
-          polled_at_lem s t r iface up hw buf k (record { clock = k'; polled = p }) buf' (by_value s t r iface up hw buf k p buf' k' h);
+          polled_at s t r iface up hw buf k (record { clock = k'; polled = p }) buf' (by_value s t r iface up hw buf k p buf' k' h);
       advertisement_off = advertised_off;
       poll_at_off = polled_at_off;
       poll_off =
@@ -417,16 +417,16 @@ refusals =
           λ option r h.
           refuses (malformed_row (malformed option) ∷ []) (checked_number r) NothingToChange (h.number ∙ cond_row Malformed (malformed option)) (λ why e. tt);
       check_options = λ msg from r h. refuses (malformed_option msg from ∷ []) (walk_number r) NothingToChange h.number (λ why e. tt);
-      next_option_lem = stepped;
+      next_option = stepped;
       write = written;
       write_solicit = λ buf src hw r buf' h. (h.number, λ short. h.leaves ∙ too_short buf src hw short);
-      purge_orphans_lem = λ q c r h. h.number;
+      purge_orphans = λ q c r h. h.number;
       neighbour_at = λ c index r h. h.number;
       packet_at = λ q index r h. h.number;
-      address_at_lem = λ t index r h. h.number;
-      route_at_lem = λ t index r h. h.number;
-      prefix_at_lem = λ s index r h. h.number;
-      router_at_lem = λ s index r h. h.number;
-      link_local_lem = λ t r h. h.number;
+      address_at = λ t index r h. h.number;
+      route_at = λ t index r h. h.number;
+      prefix_at = λ s index r h. h.number;
+      router_at = λ s index r h. h.number;
+      link_local = λ t r h. h.number;
       from_link_prefix = λ hw c r h. h.number;
     }

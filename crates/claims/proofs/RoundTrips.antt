@@ -56,8 +56,8 @@ round_trips =
       address = address_reads_back;
       hardware = hardware_reads_back;
       message = message_reads_back;
-      message_bytes_lem = read_back;
+      message_bytes = read_back;
       parted = join;
-      number_field_lem = clear_decimal;
+      number_field = clear_decimal;
       digits_field = clear_hexed;
     }

@@ -17,7 +17,7 @@ use Rattle.claims.proofs.Polling.{due_asked, refused_fine, synced_step, due_rout
 use Rattle.claims.proofs.Routed.{any_dropped, none_dropped, ours, clear_apart, learned_of, clear_ours, add_apart, on_router, elsewhere_apart, routers_once, routers_live, lives_on}
 use Rattle.claims.proofs.Standing.{same_addr_refl, same_addr_lem, put_route_stands, drop_route_stands, options_routers, installed_route}
 use Rattle.claims.specs.Arrives.{start_host, up_host, ra_host, end_host, second_host, both_host}
-use Rattle.claims.specs.Early.{Host, advertise, poll, Step, advertised, polled, polled_at_lem, none, one_more, TakesPoll, Run, route_stands, HostCall}
+use Rattle.claims.specs.Early.{Host, advertise, poll, Step, advertised, polled, polled_at, none, one_more, TakesPoll, Run, route_stands, HostCall}
 use Rattle.claims.specs.Examples.{mac, router, network, header, offer}
 use Rattle.claims.specs.Lists.{All, Some, Member}
 use Rattle.claims.specs.RoutesArrive.{RoutesMade, RouterEnded, RouterValid, has_router_place, Announces, router_by, Announced, MeanwhileOf, HasRouteRoom, HasRoomAfter, RouteOffered, RoutesArrive}
@@ -204,7 +204,7 @@ module _ (i : ℕ) (via : Ipv6Addr) where
   gone_step {hw} (polled x up buf buf' k k' r p) fine g l =
       subst (λ (q : Polled). route_stands i via (routes_of q.routes) ≡ false) (sym p.is)
       (none_dropped (is_installed i via) (routes_of (poll_by (time_check k.now i) x.slaac x.addrs x.routes i up hw buf k).polled.routes) (gone_poll (time_check k.now i) x.slaac x.addrs x.routes up hw buf k fine g l))
-  gone_step {hw} (polled_at_lem x up buf buf' k r p) fine g l =
+  gone_step {hw} (polled_at x up buf buf' k r p) fine g l =
       subst (λ (q : PolledAt). route_stands i via (routes_of q.polled.routes) ≡ false) (sym p.is)
       (none_dropped (is_installed i via) (routes_of (poll_by (time_check k.now i) x.slaac x.addrs x.routes i up hw buf k).polled.routes) (gone_poll (time_check k.now i) x.slaac x.addrs x.routes up hw buf k fine g l))
 

@@ -12,9 +12,9 @@ use Rattle.claims.proofs.Lists.{either_none, all_of, all_append, all_first, all_
 use Rattle.claims.proofs.Sleep.{sleep}
 use Rattle.claims.proofs.Standing.{same_cidr_lem, unskipped, learned_all, leave_all}
 use Rattle.claims.specs.Arrives.{end_host}
-use Rattle.claims.specs.Clocks.{Poll, polled as lent, polled_at_lem as valued}
+use Rattle.claims.specs.Clocks.{Poll, polled as lent, polled_at as valued}
 use Rattle.claims.specs.Examples.{link_local}
-use Rattle.claims.specs.Early.{Host, HostCall, poll, add_addr, Step, polled, polled_at_lem, Run}
+use Rattle.claims.specs.Early.{Host, HostCall, poll, add_addr, Step, polled, polled_at, Run}
 use Rattle.claims.specs.Lists.{All}
 use Rattle.claims.specs.SameSource.{NoneLocal, source_in, host_with, host_of, SameSource}
 use Rattle.autoconf.specs.AdvertRules.{options_in, prefix_options, step2, last_source, steps2to4, call_by}
@@ -282,13 +282,13 @@ module _ {i : ℕ} {up : Bool} {hw : HardwareAddress} where
   poll_source (lent s t r buf k p buf' k' h) n =
       same i hw (host_with s t r) (host_with p.slaac p.addrs p.routes) (poll k.now) (polled (host_with s t r) up buf buf' k k' p h) n (a_poll k.now)
   poll_source (valued s t r buf k p buf' h) n =
-      same i hw (host_with s t r) (host_with p.polled.slaac p.polled.addrs p.polled.routes) (poll k.now) (polled_at_lem (host_with s t r) up buf buf' k p h) n (a_poll k.now)
+      same i hw (host_with s t r) (host_with p.polled.slaac p.polled.addrs p.polled.routes) (poll k.now) (polled_at (host_with s t r) up buf buf' k p h) n (a_poll k.now)
 
 -- A card
 
 module _ (x : Card) (up : Bool) (hw : HardwareAddress) (buf : List ℕ) (now : Instant) (r : Settled) (buf' : List ℕ) (h : SettledTo x up hw buf now r buf') (n : NoneLocal (host_of x)) where
   step : time_check now 0 ≡ Fine → Step 0 hw (host_of x) (poll now) (host_of (settled_after x (poll_of x up hw buf now)).card)
-  step ok = polled_at_lem (host_of x) up buf buf' (idle now) (poll_of x up hw buf now) (h.polls ok)
+  step ok = polled_at (host_of x) up buf buf' (idle now) (poll_of x up hw buf now) (h.polls ok)
 
   -- of a time that is refused the card is as it was
   settles_by : (check : Check) → time_check now 0 ≡ check

@@ -13,7 +13,7 @@ use Rattle.claims.proofs.Lists.{twice_slots, twice_count, all_append}
 use Rattle.claims.proofs.Wake.{wake}
 use Rattle.claims.proofs.WakePoll.{wake_poll}
 use Rattle.claims.proofs.WakeTable.{same_ifaces}
-use Rattle.claims.specs.Clocks.{Sweep, swept_at, Poll, polled_at_lem}
+use Rattle.claims.specs.Clocks.{Sweep, swept_at, Poll, polled_at}
 use Rattle.claims.specs.Lists.{All, Member}
 use Rattle.claims.specs.Sleep.{OnOne, still, turns_over, Sleep}
 use Rattle.claims.specs.Wake.{Asleep, none, one_more, Round, times_of, already, IsEarliest}
@@ -215,12 +215,12 @@ module _ (x : Card) (up : Bool) (hw : HardwareAddress) (buf : List ℕ) (now : I
   abbrev poll : PolledAt
   poll = poll_of x up hw buf now
 
-  is_after_lem : r ≡ settled_after x (poll_of x up hw buf now)
+  is_after : r ≡ settled_after x (poll_of x up hw buf now)
   unfolding settled
-  is_after_lem = h.is ∙ ap (λ (check : Check). decided check (not_settled x) (settled_after x (poll_of x up hw buf now))) ok
+  is_after = h.is ∙ ap (λ (check : Check). decided check (not_settled x) (settled_after x (poll_of x up hw buf now))) ok
 
   polls : Poll 0 up hw x.slaac x.addrs x.routes buf (idle now) poll.polled buf' poll.clock
-  polls = polled_at_lem x.slaac x.addrs x.routes buf (idle now) poll buf' (h.polls ok)
+  polls = polled_at x.slaac x.addrs x.routes buf (idle now) poll buf' (h.polls ok)
 
   poll_now : poll.clock.now ≡ now
   poll_now = (clocks.poll_at x.slaac x.addrs x.routes 0 up hw buf (idle now) poll buf' (h.polls ok)).now
@@ -332,7 +332,7 @@ module _ (x : Card) (up : Bool) (hw : HardwareAddress) (buf : List ℕ) (now : I
   nothing_new : (p : Polled) → p.slaac ≡ y.slaac → p.addrs ≡ y.addrs → p.routes ≡ y.routes → poll2.polled ≡ p → (last_sweep y poll2).clock.deadline ≡ wakes
       → r2 ≡ still y p.answer wakes
   nothing_new p s t e is d =
-      is_after_lem y up2 hw2 buf2 next r2 buf2' h2 ok2
+      is_after y up2 hw2 buf2 next r2 buf2' h2 ok2
       ∙ (λ i.
       record {
         card = record { slaac = (is i).slaac; addrs = (is i).addrs; routes = (is i).routes; cache = last_same i; queue = same_queue i };
@@ -416,18 +416,18 @@ sleep =
       settles = settled_one;
       exact = λ x up hw buf now r buf' h ok own on.
           subst (λ (q : Settled). IsEarliest q.wake (slaac_times (sender_in up x.addrs) q.card.slaac ++ times_of (entries q.card.cache)))
-          (sym (is_after_lem x up hw buf now r buf' h ok)) (exact_after x up hw buf now r buf' h ok own on);
+          (sym (is_after x up hw buf now r buf' h ok)) (exact_after x up hw buf now r buf' h ok own on);
       exact_off = λ x up hw buf now r buf' h ok own off.
-          subst (λ (q : Settled). IsEarliest q.wake (times_of (entries q.card.cache))) (sym (is_after_lem x up hw buf now r buf' h ok))
+          subst (λ (q : Settled). IsEarliest q.wake (times_of (entries q.card.cache))) (sym (is_after x up hw buf now r buf' h ok))
           (exact_after_off x up hw buf now r buf' h ok own off);
       later = settled_later;
       asleep = λ x up hw buf now r buf' h ok own on up2 hw2 buf2 next r2 buf2' h2 ok2 same a.
-          let e = is_after_lem x up hw buf now r buf' h ok in
+          let e = is_after x up hw buf now r buf' h ok in
           let w = asleep_on x up hw buf now r buf' h ok own up2 hw2 buf2 next r2 buf2' (subst (λ (q : Settled). SettledTo q.card up2 hw2 buf2 next r2 buf2') e h2) ok2
           (subst (λ (q : Settled). Asleep q.wake next) e a) on (subst (λ (q : Settled). sender_in up2 q.card.addrs ≡ sender_in up x.addrs) e same) in
           (subst (λ (q : Settled). r2 ≡ still q.card Quiet q.wake) (sym e) w.0, w.1);
       asleep_off = λ x up hw buf now r buf' h ok own off up2 hw2 buf2 next r2 buf2' h2 ok2 a.
-          let e = is_after_lem x up hw buf now r buf' h ok in
+          let e = is_after x up hw buf now r buf' h ok in
           let w = asleep_off x up hw buf now r buf' h ok own up2 hw2 buf2 next r2 buf2' (subst (λ (q : Settled). SettledTo q.card up2 hw2 buf2 next r2 buf2') e h2) ok2
           (subst (λ (q : Settled). Asleep q.wake next) e a) off in
           (subst (λ (q : Settled). r2 ≡ still q.card Off q.wake) (sym e) w.0, w.1);

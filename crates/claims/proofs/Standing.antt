@@ -144,10 +144,10 @@ module _ (P : Prefix → Type 0)
       all_with P s.prefixes (at_first_is (is_prefix p.cidr) (put_over p) (if_room 4 (prefixes_of s) p) (prefixes_of s))
       (all_first P (is_prefix p.cidr) (put_over p) (if_room 4 (prefixes_of s) p) (prefixes_of s) h (all_if P (ltb (length (prefixes_of s)) 4) p g) (λ x e q. (g, tt)))
 
-  expire_all_lem : (s : Slaac) (c : Ipv6Cidr) (now : Instant) → All P (prefixes_of s) → ((x : Prefix) → is_prefix c x ≡ true → All P (prefix_ends now x))
+  expire_all : (s : Slaac) (c : Ipv6Cidr) (now : Instant) → All P (prefixes_of s) → ((x : Prefix) → is_prefix c x ≡ true → All P (prefix_ends now x))
       → All P (prefixes_of (expire_prefix s c now))
   unfolding expire_prefix
-  expire_all_lem s c now h g =
+  expire_all s c now h g =
       all_with P s.prefixes (at_first_is (is_prefix c) (prefix_ends now) [] (prefixes_of s))
       (all_first P (is_prefix c) (prefix_ends now) [] (prefixes_of s) h tt (λ x e q. g x e))
 
@@ -160,7 +160,7 @@ module _ (P : Prefix → Type 0)
           → All P (prefixes_of (cond {A = Slaac} x s (cond {A = Slaac} y (add_prefix s (prefix_of o now)) (expire_prefix s (cidr_of o) now))))
       go true y ex ey = h
       go false true ex ey = add_all s (prefix_of o now) h (g ex)
-      go false false ex ey = expire_all_lem s (cidr_of o) now h (λ x e. ends now o (ltb-false 0 o.valid_lifetime ey) (g ex) x e)
+      go false false ex ey = expire_all s (cidr_of o) now h (λ x e. ends now o (ltb-false 0 o.valid_lifetime ey) (g ex) x e)
 
   options_all : (now : Instant) (os : List PrefixInformation) (s : Slaac) → All P (prefixes_of s) → All (λ o. is_skipped o ≡ false → P (prefix_of o now)) os
       → All P (prefixes_of (fold_over (process_prefix_is now) s os))

@@ -16,7 +16,7 @@ traces = record {
   by_advertisement = refl;
   by_remove = refl;
   by_clear = refl;
-  by_off_lem = refl;
+  by_off = refl;
   full = refl;
   evicted = refl;
 }

@@ -14,7 +14,7 @@ use Rattle.claims.proofs.Lists.{or_none, entries_with, all_append, all_apply, al
 use Rattle.claims.proofs.PollTimes.{InTimes, earliest, own_not_later, Ends, in_ends, ends_not_later, ends_kept, together, turn_joins, retry_not_later, asks_join}
 use Rattle.claims.proofs.Wake.{wake}
 use Rattle.claims.proofs.WakeTable.{before}
-use Rattle.claims.specs.Clocks.{Poll, polled, polled_at_lem}
+use Rattle.claims.specs.Clocks.{Poll, polled, polled_at}
 use Rattle.claims.specs.Lists.{All}
 use Rattle.claims.specs.Wake.{Asleep, times_of, already, IsEarliest}
 use Rattle.claims.specs.WakePoll.{Polls, none, one_more, quietly, ends_of, retry_from, slaac_times, WakePoll}
@@ -353,7 +353,7 @@ polls_exact (one_more {i = i} {up = up} {hw = hw} {s = s} {t = t} {r = r} {buf =
 moves : {i : ℕ} {up : Bool} {hw : HardwareAddress} {s : Slaac} {t : IfaceAddrs} {r : Routes} {buf : List ℕ} {k : Clock} {p : Polled} {buf' : List ℕ} {k' : Clock}
     → Poll i up hw s t r buf k p buf' k' → Forward k k'
 moves {i = i} {up = up} {hw = hw} (polled s t r buf k p buf' k' h) = clocks.poll s t r i up hw buf k p buf' k' h
-moves {i = i} {up = up} {hw = hw} (polled_at_lem s t r buf k p buf' h) = clocks.poll_at s t r i up hw buf k p buf' h
+moves {i = i} {up = up} {hw = hw} (polled_at s t r buf k p buf' h) = clocks.poll_at s t r i up hw buf k p buf' h
 
 polls_forward : {k k' : Clock} {times : List Instant} → Polls k times k' → Forward k k'
 polls_forward (none k) = unmoved k

@@ -235,17 +235,17 @@ WaitsAt x (Stale a) = ⊥
 abbrev pub WaitsEntry : Instant → Entry → Type 0
 WaitsEntry x e = WaitsAt x e.state
 
-module _ (now x : Instant) (ahead_of_lem : now.0 < x.0) where
+module _ (now x : Instant) (ahead_of : now.0 < x.0) where
   waits_calm : (s : State) → WaitsAt x s → NotDue now s
   waits_calm Started h = tt
-  waits_calm (Incomplete p d) h = subst (λ (y : Instant). now.0 < y.0) (sym h) ahead_of_lem
+  waits_calm (Incomplete p d) h = subst (λ (y : Instant). now.0 < y.0) (sym h) ahead_of
   waits_calm (Reachable a e) h = tt
   waits_calm (Stale a) h = tt
 
   waits_on : (s : State) → WaitsAt x s → WaitsAt x (expire_state now s)
   waits_on Started h = absurd h
   waits_on (Incomplete p d) h = h
-  waits_on (Reachable a e) h = rw (lt-leb e.0 now.0 (subst (λ (y : Instant). now.0 < y.0) (sym h) ahead_of_lem)) h
+  waits_on (Reachable a e) h = rw (lt-leb e.0 now.0 (subst (λ (y : Instant). now.0 < y.0) (sym h) ahead_of)) h
   waits_on (Stale a) h = absurd h
 
   walk_waits : (i n : ℕ) (r : Table) → length r ≤ n → Some (WaitsEntry x) r → Some (WaitsEntry x) (walk n i now r).table

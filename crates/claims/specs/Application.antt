@@ -55,7 +55,7 @@ pub record NeverGoes : Type 0 where
   pub cleared_addresses : (e : IfaceAddr) (t : IfaceAddrs) → e.origin ≡ Manual → Member e (addrs_of t) → Member e (addrs_of (clear_addrs t).addrs)
   pub dropped_route : (e : Route) (t : Routes) (i : ℕ) (via : Ipv6Addr) → e.origin ≡ ManualRoute → Member e (routes_of t)
       → Member e (routes_of (with_routes t (drop_route i via (routes_of t))))
-  pub cleared_routes_lem : (e : Route) (t : Routes) (i : ℕ) → e.origin ≡ ManualRoute → Member e (routes_of t)
+  pub cleared_routes : (e : Route) (t : Routes) (i : ℕ) → e.origin ≡ ManualRoute → Member e (routes_of t)
       → Member e (routes_of (with_routes t (clear_routes i (routes_of t))))
   -- nor does the sync put an entry of its own in its place
   pub put_address : (e : IfaceAddr) (t : IfaceAddrs) (c : Ipv6Cidr) (p : Preferred) → e.origin ≡ Manual → Member e (addrs_of t)

@@ -43,7 +43,7 @@ pub data Sweep : NeighborCache → Clock → ℕ → List ProbeEvent → Neighbo
 pub data Poll (i : ℕ) (up : Bool) (hw : HardwareAddress) : Slaac → IfaceAddrs → Routes → List ℕ → Clock → Polled → List ℕ → Clock → Type 0 where
   polled : (s : Slaac) (t : IfaceAddrs) (r : Routes) (buf : List ℕ) (k : Clock) (p : Polled) (buf' : List ℕ) (k' : Clock) → PolledBy s t r i up hw buf k p buf' k'
       → Poll i up hw s t r buf k p buf' k'
-  polled_at_lem : (s : Slaac) (t : IfaceAddrs) (r : Routes) (buf : List ℕ) (k : Clock) (p : PolledAt) (buf' : List ℕ) → PolledTo s t r i up hw buf k p buf'
+  polled_at : (s : Slaac) (t : IfaceAddrs) (r : Routes) (buf : List ℕ) (k : Clock) (p : PolledAt) (buf' : List ℕ) → PolledTo s t r i up hw buf k p buf'
       → Poll i up hw s t r buf k p.polled buf' p.clock
 
 -- the deadline is no later than that end, if the end is still to come

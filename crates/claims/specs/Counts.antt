@@ -280,11 +280,11 @@ pub record Counts : Type 0 where
       ∷ []
   -- and by name
   pub by_push : pushed 7 (push 7 Queued ∷ []) ≡ 1
-  pub by_release_lem : released 7 (release (Handle 7) ∷ []) ≡ 1
-  pub by_overflow_lem : dropped_as_oldest 7 (push 1 (Dropped 7) ∷ []) ≡ 1
-  pub by_orphans_lem : purged_as_orphan 7 (purge_orphans (one_handle 7) ∷ []) ≡ 1
-  pub by_purge_lem : purged_with_iface 7 (purge_iface (one_handle 7) ∷ []) ≡ 1
-  pub by_off_lem : purged_with_iface 7 (turn_off (one_handle 7) ∷ []) ≡ 1
+  pub by_release : released 7 (release (Handle 7) ∷ []) ≡ 1
+  pub by_overflow : dropped_as_oldest 7 (push 1 (Dropped 7) ∷ []) ≡ 1
+  pub by_orphans : purged_as_orphan 7 (purge_orphans (one_handle 7) ∷ []) ≡ 1
+  pub by_purge : purged_with_iface 7 (purge_iface (one_handle 7) ∷ []) ≡ 1
+  pub by_off : purged_with_iface 7 (turn_off (one_handle 7) ∷ []) ≡ 1
   -- one handle goes all four ways, and waits twice
   pub every_way : Answers every_way_calls every_way_is
       (packet (node_on 0 1) 7 ∷ packet (node_on 0 1) 1 ∷ packet (node_on 0 1) 2 ∷ packet (node_on 0 1) 3 ∷ packet (node_on 0 1) 7 ∷ [])

@@ -64,7 +64,7 @@ pub record Determined : Type 0 where
   pub write_solicit : (buf : List ℕ) (src : Ipv6Addr) (hw : HardwareAddress) → OneAnswerLeaving (Solicits buf src hw)
   pub check_option : (option : List ℕ) → OneAnswer (Checks option)
   pub check_options : (msg : List ℕ) (from : ℕ) → OneAnswer (Walks msg from)
-  pub next_option_lem : (msg : List ℕ) (at : ℕ) → OneAnswer (Steps msg at)
+  pub next_option : (msg : List ℕ) (at : ℕ) → OneAnswer (Steps msg at)
   pub write : (msg : List ℕ) (at : ℕ) (bs : List ℕ) → OneAnswerLeaving (Wrote msg at bs)
   -- of a part that is handed back, its bytes and where it begins: all that a program can read of it
   pub «data» : (option r r' : Bor (List ℕ)) → HandsBack option r → HandsBack option r' → (r.now ≡ r'.now) × (r.ref_ptr ≡ r'.ref_ptr)
@@ -76,27 +76,27 @@ pub record Determined : Type 0 where
   pub get : (c : NeighborCache) (iface : ℕ) (addr : Ipv6Addr) → OneAnswer (GotBy c iface addr)
   pub neighbour_at : (c : NeighborCache) (index : ℕ) → OneAnswer (ListedAt c index)
   pub remove : (c : NeighborCache) (iface : ℕ) (addr : Ipv6Addr) → OneAnswer (RemovedTo c iface addr)
-  pub clear_iface_lem : (c : NeighborCache) (iface : ℕ) → OneAnswer (ClearTo c iface)
+  pub clear_iface : (c : NeighborCache) (iface : ℕ) → OneAnswer (ClearTo c iface)
   -- sweep, with the clock by value and, of lent, with the clock lent
   pub sweep_at : (c : NeighborCache) (k : Clock) (iface : ℕ) → OneAnswer (SweptTo c k iface)
   pub sweep : (c : NeighborCache) (k : Clock) (iface : ℕ) → OneAnswerLeaving (ReportedTo c k iface)
   -- pending
   pub push : (q : PendingQueue) (iface : ℕ) (addr : Ipv6Addr) (handle : ℕ) → OneAnswer (PushedTo q iface addr handle)
   pub release : (q : PendingQueue) (iface : ℕ) (addr : Ipv6Addr) → OneAnswer (ReleasedTo q iface addr)
-  pub purge_orphans_lem : (q : PendingQueue) (c : NeighborCache) → OneAnswer (OrphansPurged q c)
-  pub purge_iface_lem : (q : PendingQueue) (iface : ℕ) → OneAnswer (PurgedTo q iface)
+  pub purge_orphans : (q : PendingQueue) (c : NeighborCache) → OneAnswer (OrphansPurged q c)
+  pub purge_iface : (q : PendingQueue) (iface : ℕ) → OneAnswer (PurgedTo q iface)
   pub packet_at : (q : PendingQueue) (index : ℕ) → OneAnswer (WaitingAt q index)
   -- iface
   pub add_ip_addr : (t : IfaceAddrs) (iface : ℕ) (c : Ipv6Cidr) → OneAnswer (AddedTo t iface c)
-  pub link_local_lem : (t : IfaceAddrs) → OneAnswer (LocalOf t)
-  pub address_at_lem : (t : IfaceAddrs) (index : ℕ) → OneAnswer (AddrListed t index)
-  pub add_route_lem : (t : Routes) (iface : ℕ) (c : Ipv6Cidr) (via : Ipv6Addr) → OneAnswer (AddedRouteTo t iface c via)
-  pub route_at_lem : (t : Routes) (index : ℕ) → OneAnswer (RouteListed t index)
+  pub link_local : (t : IfaceAddrs) → OneAnswer (LocalOf t)
+  pub address_at : (t : IfaceAddrs) (index : ℕ) → OneAnswer (AddrListed t index)
+  pub add_route : (t : Routes) (iface : ℕ) (c : Ipv6Cidr) (via : Ipv6Addr) → OneAnswer (AddedRouteTo t iface c via)
+  pub route_at : (t : Routes) (index : ℕ) → OneAnswer (RouteListed t index)
   -- slaac
   pub restart : (s : Slaac) (iface : ℕ) → OneAnswer (RestartedTo s iface)
   pub turn_on : (s : Slaac) (iface : ℕ) → OneAnswer (TurnedOnTo s iface)
-  pub prefix_at_lem : (s : Slaac) (index : ℕ) → OneAnswer (PrefixListed s index)
-  pub router_at_lem : (s : Slaac) (index : ℕ) → OneAnswer (RouterListed s index)
+  pub prefix_at : (s : Slaac) (index : ℕ) → OneAnswer (PrefixListed s index)
+  pub router_at : (s : Slaac) (index : ℕ) → OneAnswer (RouterListed s index)
   -- autoconf; the poll leaves its buffer and, of lent, its clock
   pub advertisement : (s : Slaac) (c : NeighborCache) (iface : ℕ) (source : Ipv6Addr) (msg : List ℕ) (now : Instant)
       → OneAnswer (AdvertisedTo s c iface source msg now)
@@ -105,7 +105,7 @@ pub record Determined : Type 0 where
   pub poll : (s : Slaac) (t : IfaceAddrs) (r : Routes) (iface : ℕ) (up : Bool) (hw : HardwareAddress) (buf : List ℕ) (k : Clock)
       (p p' : Polled) (buf' buf'' : List ℕ) (k' k'' : Clock) → PolledBy s t r iface up hw buf k p buf' k' → PolledBy s t r iface up hw buf k p' buf'' k''
       → (p ≡ p') × (buf' ≡ buf'') × (k' ≡ k'')
-  pub turn_off_lem : (s : Slaac) (t : IfaceAddrs) (r : Routes) (c : NeighborCache) (q : PendingQueue) (iface : ℕ) → OneAnswer (TurnedOffTo s t r c q iface)
+  pub turn_off : (s : Slaac) (t : IfaceAddrs) (r : Routes) (c : NeighborCache) (q : PendingQueue) (iface : ℕ) → OneAnswer (TurnedOffTo s t r c q iface)
   -- mainloop; each leaves its buffer
   pub settle : (card : LoopCard) (up : Bool) (hw : HardwareAddress) (buf : List ℕ) (now : Instant) → OneAnswerLeaving (SettledTo card up hw buf now)
   pub turn : (card : LoopCard) (woken : Woken) (received : List ℕ) (hw : HardwareAddress) (buf : List ℕ)

@@ -71,7 +71,7 @@ pub data Step (i : ℕ) (hw : HardwareAddress) : Host → HostCall → Host → 
       → Step i hw x (advertise source msg now) (record { slaac = r.slaac; addrs = x.addrs; routes = x.routes })
   polled : (x : Host) (up : Bool) (buf buf' : List ℕ) (k k' : Clock) (r : Polled) → PolledBy x.slaac x.addrs x.routes i up hw buf k r buf' k'
       → Step i hw x (poll k.now) (record { slaac = r.slaac; addrs = r.addrs; routes = r.routes })
-  polled_at_lem : (x : Host) (up : Bool) (buf buf' : List ℕ) (k : Clock) (r : PolledAt) → PolledTo x.slaac x.addrs x.routes i up hw buf k r buf'
+  polled_at : (x : Host) (up : Bool) (buf buf' : List ℕ) (k : Clock) (r : PolledAt) → PolledTo x.slaac x.addrs x.routes i up hw buf k r buf'
       → Step i hw x (poll k.now) (record { slaac = r.polled.slaac; addrs = r.polled.addrs; routes = r.polled.routes })
   restarted : (x : Host) (r : Changed) → RestartedTo x.slaac i r → Step i hw x restart (record { slaac = r.slaac; addrs = x.addrs; routes = x.routes })
   turned_on : (x : Host) (r : Changed) → TurnedOnTo x.slaac i r → Step i hw x turn_on_is (record { slaac = r.slaac; addrs = x.addrs; routes = x.routes })
@@ -79,7 +79,7 @@ pub data Step (i : ℕ) (hw : HardwareAddress) : Host → HostCall → Host → 
       → Step i hw x add_addr (record { slaac = x.slaac; addrs = r.addrs; routes = x.routes })
   route_added : (x : Host) (j : ℕ) (c : Ipv6Cidr) (via : Ipv6Addr) (r : AddedRoute) → AddedRouteTo x.routes j c via r
       → Step i hw x add_route (record { slaac = x.slaac; addrs = x.addrs; routes = r.routes })
-  turned_off_lem : (x : Host) (c : NeighborCache) (q : PendingQueue) (r : TurnedOff) → TurnedOffTo x.slaac x.addrs x.routes c q i r
+  turned_off : (x : Host) (c : NeighborCache) (q : PendingQueue) (r : TurnedOff) → TurnedOffTo x.slaac x.addrs x.routes c q i r
       → Step i hw x turn_off (record { slaac = r.slaac; addrs = r.addrs; routes = r.routes })
   polled_elsewhere : (x : Host) (j : ℕ) (s : Slaac) (t : IfaceAddrs) (up : Bool) (h : HardwareAddress) (buf buf' : List ℕ) (k k' : Clock) (r : Polled)
       → (j ≡ i → ⊥) → PolledBy s t x.routes j up h buf k r buf' k'
@@ -192,7 +192,7 @@ pub record NotEarly : Type 0 where
       → stands a (addrs_of x.addrs) ≡ true → All (LastsTo v hw a) (prefixes_of x.slaac) → All (Harmless i v hw a) cs
       → stands a (addrs_of y.addrs) ≡ true
   -- The same for one prefix: it is the only one of the table that forms the address, and no advertisement that is taken names it or another that does.
-  pub address_of_lem : (i : ℕ) (hw : HardwareAddress) (a : Ipv6Cidr) (p : Prefix) (x y : Host) (cs : List HostCall) → Run i hw x cs y
+  pub address_of : (i : ℕ) (hw : HardwareAddress) (a : Ipv6Cidr) (p : Prefix) (x y : Host) (cs : List HostCall) → Run i hw x cs y
       → stands a (addrs_of x.addrs) ≡ true → All (λ q. formed_of hw q.cidr ≡ Addr a → q ≡ p) (prefixes_of x.slaac)
       → All (Silent i p.valid_until hw a) cs
       → stands a (addrs_of y.addrs) ≡ true

@@ -158,7 +158,7 @@ pub record EitherOrder : Type 1 where
   pub routes_stay : (r : Routes) (c : NeighborCache) (q : PendingQueue) (a : ℕ) (m : Own) (x : TurnedOff) → m.slaac.on ≡ false
       → TurnedOffTo m.slaac m.addrs r c q a x → x.routes ≡ r
   -- and off again leaves everything as it is
-  pub off_twice_lem : (r : Routes) (c : NeighborCache) (q : PendingQueue) (a : ℕ) (m : Own) (x y : TurnedOff)
+  pub off_twice : (r : Routes) (c : NeighborCache) (q : PendingQueue) (a : ℕ) (m : Own) (x y : TurnedOff)
       → TurnsOff r c q a m a (record { slaac = x.slaac; addrs = x.addrs }) x y
       → y ≡ turned_off x.slaac x.addrs x.routes x.cache x.queue no_handle x.outcome
   -- "the same" is not the same slots

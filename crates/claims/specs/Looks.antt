@@ -123,5 +123,5 @@ pub record Looks : Type 0 where
   -- of a key that is there twice, both, whatever probes were sent
   pub twice : looked_at 3000 0 (map (sent 255) (1 ∷ 1 ∷ [])) 2 ≡ 2
   -- refused by 3 and by 7
-  pub too_late_lem : looked_at (2 ^ 62 + 1) 0 (map lost sixteen) 16 ≡ 0
+  pub too_late : looked_at (2 ^ 62 + 1) 0 (map lost sixteen) 16 ≡ 0
   pub nowhere : looked_at 3000 4 (map lost sixteen) 16 ≡ 0

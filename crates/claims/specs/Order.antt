@@ -33,7 +33,7 @@ pub record Order : Type 0 where
   pub advertisement : (t : Instant) (iface : ℕ) (source : Ipv6Addr) (msg : List ℕ) → ascends (time_rows t iface ++ message_rows source msg) ≡ true
   -- the application's calls
   pub add_ip_addr : (iface : ℕ) (c : Ipv6Cidr) (es : List IfaceAddr) → ascends (addr_rows iface c es) ≡ true
-  pub add_route_lem : (iface : ℕ) (c : Ipv6Cidr) (via : Ipv6Addr) (es : List Route) → ascends (route_rows iface c via es) ≡ true
+  pub add_route : (iface : ℕ) (c : Ipv6Cidr) (via : Ipv6Addr) (es : List Route) → ascends (route_rows iface c via es) ≡ true
   -- get, remove, clear, the queue's calls, restart, turning SLAAC on and off
   pub on_an_interface : (iface : ℕ) → ascends (iface_rows iface) ≡ true
   -- "times in tables and a clock's deadline are never refused": with the same arguments a call's number is the same for every cache

@@ -521,7 +521,7 @@ pub record Pinned : Type 0 where
       ≡ record { cidr = network; via_router = router; iface = 1; origin = ManualRoute; expires_at = Forever } ∷ []
   -- the refusal table, on both sides of each bound (its numbers: `Refusals`)
   pub latest : check_number (time_check (ms (2 ^ 62)) 3) ≡ 0
-  pub too_late_lem : check_number (time_check (ms (2 ^ 62 + 1)) 4) ≡ 3
+  pub too_late : check_number (time_check (ms (2 ^ 62 + 1)) 4) ≡ 3
   pub no_interface : check_number (time_check (ms (2 ^ 62)) 4) ≡ 7
   pub group_address : check_number (key_check 3 (beginning 0xff02)) ≡ 2
   pub group_filled : check_number (fill_check (ms 0) 3 (beginning 0x2001) (record { hi = 0x0100; lo = 0 })) ≡ 2

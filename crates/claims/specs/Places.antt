@@ -44,7 +44,7 @@ pub record Places : Type 1 where
   pub key : FindLaw
   -- "the first entry there or later that .."
   pub first : FirstFromLaw
-  pub first_of_lem : FirstOfLaw
+  pub first_of : FirstOfLaw
   -- "Lookup: Reachable is Found, even past its time; Started and Incomplete are Pending; the rest NotFound."
   pub lookup : LookupLaw
   -- "removing or listing an absent key answers Nothing"

@@ -192,7 +192,7 @@ pub record Refusals : Type 0 where
   pub get : (c : NeighborCache) (iface : ℕ) (addr : Ipv6Addr) (r : Got) → GotBy c iface addr r → Refuses (iface_rows iface) (got_number_is r) NothingToChange
   pub remove : (c : NeighborCache) (iface : ℕ) (addr : Ipv6Addr) (r : Removed) → RemovedTo c iface addr r
       → Refuses (iface_rows iface) (got_number_is r.taken) (r.cache ≡ c)
-  pub clear_iface_lem : (c : NeighborCache) (iface : ℕ) (r : Changed) → ClearTo c iface r
+  pub clear_iface : (c : NeighborCache) (iface : ℕ) (r : Changed) → ClearTo c iface r
       → Refuses (iface_rows iface) (outcome_number r.outcome) (r.cache ≡ c)
   -- a sweep, with the clock by value and with the clock lent
   pub sweep_at : (c : NeighborCache) (k : Clock) (iface : ℕ) (r : Swept) → SweptTo c k iface r
@@ -205,19 +205,19 @@ pub record Refusals : Type 0 where
       → Refuses (iface_rows iface) (push_number r.answer) ((r.queue ≡ q) × (pushed_out r.answer ≡ []))
   pub release : (q : PendingQueue) (iface : ℕ) (addr : Ipv6Addr) (r : Released) → ReleasedTo q iface addr r
       → Refuses (iface_rows iface) (release_number r.answer) ((r.queue ≡ q) × (released_out r.answer ≡ []))
-  pub purge_iface_lem : (q : PendingQueue) (iface : ℕ) (r : Purged) → PurgedTo q iface r
+  pub purge_iface : (q : PendingQueue) (iface : ℕ) (r : Purged) → PurgedTo q iface r
       → Refuses (iface_rows iface) (outcome_number r.outcome) ((r.queue ≡ q) × (r.handles.len ≡ 0))
   -- What the application adds
 
   pub add_ip_addr : (t : IfaceAddrs) (iface : ℕ) (c : Ipv6Cidr) (r : Added) → AddedTo t iface c r
       → Refuses (addr_rows iface c (addrs_of t)) (outcome_number r.outcome) (r.addrs ≡ t)
-  pub add_route_lem : (t : Routes) (iface : ℕ) (c : Ipv6Cidr) (via : Ipv6Addr) (r : AddedRoute) → AddedRouteTo t iface c via r
+  pub add_route : (t : Routes) (iface : ℕ) (c : Ipv6Cidr) (via : Ipv6Addr) (r : AddedRoute) → AddedRouteTo t iface c via r
       → Refuses (route_rows iface c via (routes_of t)) (outcome_number r.outcome) (r.routes ≡ t)
   -- SLAAC
 
   pub restart : (s : Slaac) (iface : ℕ) (r : Turned) → RestartedTo s iface r → Refuses (iface_rows iface) (outcome_number r.outcome) (r.slaac ≡ s)
   pub turn_on : (s : Slaac) (iface : ℕ) (r : Turned) → TurnedOnTo s iface r → Refuses (iface_rows iface) (outcome_number r.outcome) (r.slaac ≡ s)
-  pub turn_off_lem : (s : Slaac) (t : IfaceAddrs) (r : Routes) (c : NeighborCache) (q : PendingQueue) (iface : ℕ) (x : TurnedOff)
+  pub turn_off : (s : Slaac) (t : IfaceAddrs) (r : Routes) (c : NeighborCache) (q : PendingQueue) (iface : ℕ) (x : TurnedOff)
       → TurnedOffTo s t r c q iface x → Refuses (iface_rows iface) (outcome_number x.outcome) (NotTurnedOff s t r c q x)
   -- with SLAAC on, 3 and 7 and then the message's rows; with SLAAC off, 3 and 7
   pub advertisement : (s : Slaac) (c : NeighborCache) (iface : ℕ) (source : Ipv6Addr) (msg : List ℕ) (now : Instant) (r : Advertised)
@@ -243,7 +243,7 @@ pub record Refusals : Type 0 where
   pub router_advert : (msg : List ℕ) (r : Advert) → Adverts msg r → Refuses (not_advertisement msg ∷ []) (headerNumber r) NothingToChange
   pub check_option : (option : List ℕ) (r : Checked) → Checks option r → Refuses (malformed_row (malformed option) ∷ []) (checked_number r) NothingToChange
   pub check_options : (msg : List ℕ) (from : ℕ) (r : Walk) → Walks msg from r → Refuses (malformed_option msg from ∷ []) (walk_number r) NothingToChange
-  pub next_option_lem : (msg : List ℕ) (at : ℕ) (r : Next) → Steps msg at r
+  pub next_option : (msg : List ℕ) (at : ℕ) (r : Next) → Steps msg at r
       → Refuses (malformed_row (ltb at (length msg) && malformed (drop at msg)) ∷ []) (next_number r) NothingToChange
   -- the writers of options: no byte of the message changes
   pub write : (msg : List ℕ) (at : ℕ) (bs : List ℕ) (r : Written) (msg' : List ℕ) → Wrote msg at bs r msg'
@@ -253,12 +253,12 @@ pub record Refusals : Type 0 where
       → (solicited_number r ≡ 0) × (length buf < 16 → buf' ≡ buf)
   -- Calls that refuse nothing
 
-  pub purge_orphans_lem : (q : PendingQueue) (c : NeighborCache) (r : Purged) → OrphansPurged q c r → outcome_number r.outcome ≡ 0
+  pub purge_orphans : (q : PendingQueue) (c : NeighborCache) (r : Purged) → OrphansPurged q c r → outcome_number r.outcome ≡ 0
   pub neighbour_at : (c : NeighborCache) (index : ℕ) (r : Got) → ListedAt c index r → got_number_is r ≡ 0
   pub packet_at : (q : PendingQueue) (index : ℕ) (r : Waiting) → WaitingAt q index r → waiting_number r ≡ 0
-  pub address_at_lem : (t : IfaceAddrs) (index : ℕ) (r : AddrAt) → AddrListed t index r → addr_at_number r ≡ 0
-  pub route_at_lem : (t : Routes) (index : ℕ) (r : RouteAt) → RouteListed t index r → route_at_number r ≡ 0
-  pub prefix_at_lem : (s : Slaac) (index : ℕ) (r : PrefixAt) → PrefixListed s index r → prefix_at_number r ≡ 0
-  pub router_at_lem : (s : Slaac) (index : ℕ) (r : RouterAt) → RouterListed s index r → router_at_number r ≡ 0
-  pub link_local_lem : (t : IfaceAddrs) (r : Source) → LocalOf t r → source_number r ≡ 0
+  pub address_at : (t : IfaceAddrs) (index : ℕ) (r : AddrAt) → AddrListed t index r → addr_at_number r ≡ 0
+  pub route_at : (t : Routes) (index : ℕ) (r : RouteAt) → RouteListed t index r → route_at_number r ≡ 0
+  pub prefix_at : (s : Slaac) (index : ℕ) (r : PrefixAt) → PrefixListed s index r → prefix_at_number r ≡ 0
+  pub router_at : (s : Slaac) (index : ℕ) (r : RouterAt) → RouterListed s index r → router_at_number r ≡ 0
+  pub link_local : (t : IfaceAddrs) (r : Source) → LocalOf t r → source_number r ≡ 0
   pub from_link_prefix : (hw : HardwareAddress) (c : Ipv6Cidr) (r : Formed) → Forms hw c r → formed_number r ≡ 0

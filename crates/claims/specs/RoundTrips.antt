@@ -62,8 +62,8 @@ pub record RoundTrips : Type 0 where
   pub address : (a : Ipv6Addr) → a.hi < 2 ^ 64 → a.lo < 2 ^ 64 → address_of (hexed (address_bytes a)) ≡ Addr a
   pub hardware : (a : HardwareAddress) → a.hi < 2 ^ 16 → a.lo < 2 ^ 32 → hardware_of (hexed (hardware_bytes a)) ≡ Hw a
   pub message : (room : ℕ) (bs : List ℕ) → Bytes bs → 0 < length bs → length bs ≤ room → message_of room (hexed bs) ≡ Message (length bs)
-  pub message_bytes_lem : (bs : List ℕ) → Bytes bs → unhexed (hexed bs) ≡ bs
+  pub message_bytes : (bs : List ℕ) → Bytes bs → unhexed (hexed bs) ≡ bs
   -- and a line parts into the fields that were printed: at each space, of which a number and digits have none
   pub parted : (s rest : List ℕ) → NoSpace s → fields (s ++ (32 ∷ rest)) ≡ s ∷ fields rest
-  pub number_field_lem : (n : ℕ) → NoSpace (decimal n)
+  pub number_field : (n : ℕ) → NoSpace (decimal n)
   pub digits_field : (bs : List ℕ) → NoSpace (hexed bs)

@@ -51,7 +51,7 @@ pub record Traces : Type 0 where
   -- removed, cleared, and cleared by turning SLAAC off
   pub by_remove : watch_of (entries_of (neighbour 1) (table_after (answered_by (remove (neighbour 1))) [])) ≡ gone
   pub by_clear : watch_of (entries_of (neighbour 1) (table_after (answered_by (clear 0)) [])) ≡ gone
-  pub by_off_lem : watch_of (entries_of (neighbour 1) (table_after (answered_by (turn_off 0 true)) [])) ≡ gone
+  pub by_off : watch_of (entries_of (neighbour 1) (table_after (answered_by (turn_off 0 true)) [])) ≡ gone
   -- sixteen starts fill the table, and one more evicts the first of them
   pub full : length (table_after (starts_of 16) []) ≡ 16
   pub evicted : evicts (neighbour 16) (start (neighbour 17)) (table_after (starts_of 16) []) ≡ true
