@@ -1,12 +1,13 @@
-// Runs the lines of a descriptor, and hands what they print to a sink. Memory is constant: a block of input, a block of output, and the
+// Runs the lines of a reader, and hands what they print to a sink. Memory is constant: a block of input, a block of output, and the
 // state.
 #![tactic(auto)]
 
 use acts::act_line;
 use fields::BYTES_MAX;
 use rounds::round_line;
+use std::io::{Read, Write};
 use streams::reader::{LONGEST, Line, Reader, next_line};
-use streams::sink::{Sink, done, emit};
+use streams::sink::{Sink, Target, done, emit};
 use table::count_of;
 use text::print;
 use values::values_line;
@@ -116,12 +117,12 @@ fn answer(world: World, line: &[u8], room: &mut [u8], out: &mut [u8], at: usize)
 }
 
 // Hands over what is gathered, where that is much.
-fn flushed(run: Progress, out: &[u8]) -> Progress {
+fn flushed<W: Write, R: Read>(run: Progress, target: &mut Target<W, R>, out: &[u8]) -> Progress {
     if run.at < GATHERED {
         return run;
     }
     let sink = run.sink;
-    let emitted = emit(sink, between(out, 0, run.at));
+    let emitted = emit(sink, target, between(out, 0, run.at));
     let after = emitted.sink;
     let mut next = run;
     next.at = 0;
@@ -132,40 +133,52 @@ fn flushed(run: Progress, out: &[u8]) -> Progress {
 }
 
 // One line in, one line out.
-fn step(run: Progress, line: &[u8], room: &mut [u8], out: &mut [u8]) -> Progress {
+fn step<W: Write, R: Read>(
+    run: Progress,
+    target: &mut Target<W, R>,
+    line: &[u8],
+    room: &mut [u8],
+    out: &mut [u8],
+) -> Progress {
     let world = run.world;
     let answered = answer(world, line, room, out, run.at);
     let after = answered.world;
     let mut next = run;
     next.world = after;
     next.at = print::byte(out, answered.at, b'\n');
-    flushed(next, out)
+    flushed(next, target, out)
 }
 
 // A line, or the last of one that was too long and was answered already.
-fn one_line(run: Progress, line: &[u8], room: &mut [u8], out: &mut [u8]) -> Progress {
+fn one_line<W: Write, R: Read>(
+    run: Progress,
+    target: &mut Target<W, R>,
+    line: &[u8],
+    room: &mut [u8],
+    out: &mut [u8],
+) -> Progress {
     if run.skips {
         let mut next = run;
         next.skips = false;
         return next;
     }
-    step(run, line, room, out)
+    step(run, target, line, room, out)
 }
 
 // A line that is too long, or more of it.
-fn long(run: Progress, out: &mut [u8]) -> Progress {
+fn long<W: Write, R: Read>(run: Progress, target: &mut Target<W, R>, out: &mut [u8]) -> Progress {
     if run.skips {
         return run;
     }
     let mut next = run;
     next.skips = true;
     next.at = print::word(out, run.at, b"bad line\n");
-    flushed(next, out)
+    flushed(next, target, out)
 }
 
 // Of a line that is too long the first bytes are known to be its own, and are passed over.
 fn past(reader: Reader) -> Reader {
-    let start = std::num::wrapping_add_usize(reader.start, LONGEST);
+    let start = reader.start.wrapping_add(LONGEST);
     Reader {
         start,
         end: reader.end,
@@ -185,14 +198,21 @@ fn closed(run: Progress, read: bool) -> Progress {
     next
 }
 
-fn taken(run: Progress, line: Line, buf: &[u8], room: &mut [u8], out: &mut [u8]) -> Progress {
+fn taken<W: Write, R: Read>(
+    run: Progress,
+    target: &mut Target<W, R>,
+    line: Line,
+    buf: &[u8],
+    room: &mut [u8],
+    out: &mut [u8],
+) -> Progress {
     match line {
         Line::At(from, to, left) => {
-            let next = one_line(run, between(buf, from, to), room, out);
+            let next = one_line(run, target, between(buf, from, to), room, out);
             with_reader(next, left)
         }
         Line::Long(left) => {
-            let next = long(run, out);
+            let next = long(run, target, out);
             with_reader(next, past(left))
         }
         Line::End => closed(run, true),
@@ -215,13 +235,13 @@ fn end_of(run: Progress, handed: bool) -> Ended {
 }
 
 // Hands over what is gathered. Nothing may follow it.
-fn finish(run: Progress, out: &[u8]) -> Ran {
+fn finish<W: Write, R: Read>(run: Progress, target: &mut Target<W, R>, out: &[u8]) -> Ran {
     let sink = run.sink;
-    let emitted = emit(sink, between(out, 0, run.at));
+    let emitted = emit(sink, target, between(out, 0, run.at));
     let after = emitted.sink;
     if emitted.ok {
         return Ran {
-            ended: end_of(run, done(after)),
+            ended: end_of(run, done(target)),
             sink: after,
         };
     }
@@ -231,30 +251,48 @@ fn finish(run: Progress, out: &[u8]) -> Ran {
     }
 }
 
-fn next(fd: i32, run: Progress, buf: &mut [u8], room: &mut [u8], out: &mut [u8]) -> Progress {
+fn next<I: Read, W: Write, R: Read>(
+    input: &mut I,
+    run: Progress,
+    target: &mut Target<W, R>,
+    buf: &mut [u8],
+    room: &mut [u8],
+    out: &mut [u8],
+) -> Progress {
     let reader = run.reader;
-    let line = next_line(fd, buf, reader);
-    taken(run, line, buf, room, out)
+    let line = next_line(input, buf, reader);
+    taken(run, target, line, buf, room, out)
 }
 
 // Line by line, with a buffer for the input, one for the bytes that a line says, and one for the output.
-fn run_lines(fd: i32, sink: Sink, buf: &mut [u8], room: &mut [u8], out: &mut [u8]) -> Ran {
+fn run_lines<I: Read, W: Write, R: Read>(
+    input: &mut I,
+    target: &mut Target<W, R>,
+    sink: Sink,
+    buf: &mut [u8],
+    room: &mut [u8],
+    out: &mut [u8],
+) -> Ran {
     let mut run = begun(sink);
     let mut lines: u64 = 0;
     while lines < MOST {
-        run = next(fd, run, buf, room, out);
+        run = next(input, run, target, buf, room, out);
         if run.over {
-            return finish(run, out);
+            return finish(run, target, out);
         }
         lines += 1;
     }
-    finish(run, out)
+    finish(run, target, out)
 }
 
-// Answers the lines of fd.
-pub fn run(fd: i32, sink: Sink) -> Ran {
+// Answers the lines of input.
+pub fn run<I: Read, W: Write, R: Read>(
+    input: &mut I,
+    target: &mut Target<W, R>,
+    sink: Sink,
+) -> Ran {
     let mut buf = [0u8; INPUT];
     let mut room = [0u8; BYTES_MAX];
     let mut out = [0u8; OUTPUT];
-    run_lines(fd, sink, &mut buf, &mut room, &mut out)
+    run_lines(input, target, sink, &mut buf, &mut room, &mut out)
 }

@@ -3,6 +3,10 @@
 #![tactic(auto)]
 
 use runner::Ended;
+use std::fs::File;
+use std::io;
+use std::io::Read;
+use std::rt::Files;
 use streams::sink::{Sink, Target};
 
 // More cases than there are.
@@ -33,27 +37,25 @@ pub enum Case {
 }
 
 // Opens a file by the part of `path` that holds its name.
-fn open_part(path: &[u8], len: usize) -> i32 {
-    if len <= path.len() {
-        os::open_read(&path[..len])
-    } else {
-        -1
-    }
+fn open_part<R: Files>(rt: &R, path: &[u8], len: usize) -> Option<R::File> {
+    let name = path.get(..len)?;
+    let name = str::from_utf8(name).ok()?;
+    File::open(rt, name).ok()
 }
 
 // Opens the file of a case whose name ends in suffix.
-fn open_case(number: u64, suffix: &[u8]) -> i32 {
+fn open_case<R: Files>(rt: &R, number: u64, suffix: &str) -> Option<R::File> {
     let mut path = [0u8; 32];
     let dot = text::print::number(&mut path, 0, number);
-    let len = text::print::word(&mut path, dot, suffix);
-    open_part(&path, len)
+    let len = text::print::word(&mut path, dot, suffix.as_bytes());
+    open_part(rt, &path, len)
 }
 
 // The same code as the event program's, with its output compared as it comes.
-fn events_compared(from: i32, held: i32) -> Case {
-    let ran = runner::run(from, Sink::new(Target::Compare(held)));
-    let ended = ran.ended;
-    match ended {
+fn events_compared<F: Read + Drop>(from: &mut F, held: F) -> Case {
+    let mut target: Target<io::Sink, F> = Target::Compare(held);
+    let ran = runner::run(from, &mut target, Sink::new());
+    match ran.ended {
         Ended::Listed => Case::Same,
         Ended::BadLine(_) => Case::Same,
         Ended::NotRead => Case::Differs,
@@ -62,24 +64,24 @@ fn events_compared(from: i32, held: i32) -> Case {
 }
 
 // And as that of the calls.
-fn calls_compared(from: i32, held: i32) -> Case {
-    let ran = caller::run(from, Sink::new(Target::Compare(held)));
-    let ended = ran.ended;
-    match ended {
+fn calls_compared<F: Read + Drop>(from: &mut F, held: F) -> Case {
+    let mut target: Target<io::Sink, F> = Target::Compare(held);
+    let ran = caller::run(from, &mut target, Sink::new());
+    match ran.ended {
         caller::Ended::Answered => Case::Same,
         caller::Ended::NotRead => Case::Differs,
         caller::Ended::NotWritten => Case::Differs,
     }
 }
 
-fn open_input(kind: Kind, number: u64) -> i32 {
+fn open_input<R: Files>(rt: &R, kind: Kind, number: u64) -> Option<R::File> {
     match kind {
-        Kind::Events => open_case(number, b".in"),
-        Kind::Calls => open_case(number, b".calls"),
+        Kind::Events => open_case(rt, number, ".in"),
+        Kind::Calls => open_case(rt, number, ".calls"),
     }
 }
 
-fn compared(kind: Kind, from: i32, held: i32) -> Case {
+fn compared<F: Read + Drop>(kind: Kind, from: &mut F, held: F) -> Case {
     match kind {
         Kind::Events => events_compared(from, held),
         Kind::Calls => calls_compared(from, held),
@@ -87,55 +89,36 @@ fn compared(kind: Kind, from: i32, held: i32) -> Case {
 }
 
 // One case, held to the file whose name ends in suffix.
-fn one_case(kind: Kind, number: u64, suffix: &[u8]) -> Case {
-    let from = open_input(kind, number);
-    if from < 0 {
+fn one_case<R: Files>(rt: &R, kind: Kind, number: u64, suffix: &str) -> Case {
+    let Some(mut from) = open_input(rt, kind, number) else {
         return Case::Missing;
-    }
-    let held = open_case(number, suffix);
-    if held < 0 {
-        libc::close(from);
+    };
+    let Some(held) = open_case(rt, number, suffix) else {
         return Case::NoAnswer;
-    }
-    let case = compared(kind, from, held);
-    libc::close(from);
-    libc::close(held);
-    case
+    };
+    compared(kind, &mut from, held)
 }
 
-fn name_case(what: &[u8], number: u64) {
-    io::write_all(1, what);
-    io::print_decimal(1, number);
-    io::write_all(1, b"\n");
-}
-
-fn count(some: u64, all: u64, what: &[u8]) {
-    io::print_decimal(1, some);
-    io::write_all(1, b" of ");
-    io::print_decimal(1, all);
-    io::write_all(1, what);
-}
-
-fn recorded(kind: Kind, suffix: &[u8], what: &[u8]) {
+fn recorded(rt: &(impl Files + Print), kind: Kind, suffix: &str, what: &str) -> io::Result<()> {
     let mut number: u64 = 0;
     let mut same: u64 = 0;
     while number < MOST {
-        match one_case(kind, number + 1, suffix) {
+        match one_case(rt, kind, number + 1, suffix) {
             Case::Same => {
-                same = std::num::wrapping_add_u64(same, 1);
+                same = same.wrapping_add(1);
             }
-            Case::Differs => name_case(b"differs: ", number + 1),
-            Case::NoAnswer => name_case(b"no answer: ", number + 1),
+            Case::Differs => println!(rt; "differs: {}", number + 1)?,
+            Case::NoAnswer => println!(rt; "no answer: {}", number + 1)?,
             Case::Missing => break,
         }
         number += 1;
     }
-    count(same, number, what);
+    println!(rt; "{same} of {number} {what}")
 }
 
 // 1 where the case is not as the file has it whose name ends in suffix, else 0.
-fn told_apart(kind: Kind, number: u64, suffix: &[u8]) -> u64 {
-    match one_case(kind, number, suffix) {
+fn told_apart(rt: &impl Files, kind: Kind, number: u64, suffix: &str) -> u64 {
+    match one_case(rt, kind, number, suffix) {
         Case::Differs => 1,
         Case::Same => 0,
         Case::NoAnswer => 0,
@@ -144,40 +127,35 @@ fn told_apart(kind: Kind, number: u64, suffix: &[u8]) -> u64 {
 }
 
 fn sum(first: u64, second: u64, third: u64, fourth: u64) -> u64 {
-    let two = std::num::wrapping_add_u64(first, second);
-    let three = std::num::wrapping_add_u64(two, third);
-    std::num::wrapping_add_u64(three, fourth)
+    first
+        .wrapping_add(second)
+        .wrapping_add(third)
+        .wrapping_add(fourth)
 }
 
 // A byte of the answer is changed; its last byte is missing; it has one more. And, of a long answer, a byte that is compared before the
 // last block.
-fn wrong_events() {
-    let changed = told_apart(Kind::Events, SHORT, b".changed");
-    let short = told_apart(Kind::Events, SHORT, b".short");
-    let long = told_apart(Kind::Events, SHORT, b".long");
-    let early = told_apart(Kind::Events, LONG, b".changed");
-    count(
-        sum(changed, short, long, early),
-        4,
-        b" wrong answers told apart\n",
-    );
+fn wrong_events(rt: &(impl Files + Print)) -> io::Result<()> {
+    let changed = told_apart(rt, Kind::Events, SHORT, ".changed");
+    let short = told_apart(rt, Kind::Events, SHORT, ".short");
+    let long = told_apart(rt, Kind::Events, SHORT, ".long");
+    let early = told_apart(rt, Kind::Events, LONG, ".changed");
+    let told = sum(changed, short, long, early);
+    println!(rt; "{told} of 4 wrong answers told apart")
 }
 
-fn wrong_calls() {
-    let changed = told_apart(Kind::Calls, SHORT, b".answers-changed");
-    let short = told_apart(Kind::Calls, SHORT, b".answers-short");
-    let long = told_apart(Kind::Calls, SHORT, b".answers-long");
-    let early = told_apart(Kind::Calls, LONG_CALLS, b".answers-changed");
-    count(
-        sum(changed, short, long, early),
-        4,
-        b" wrong answers to calls told apart\n",
-    );
+fn wrong_calls(rt: &(impl Files + Print)) -> io::Result<()> {
+    let changed = told_apart(rt, Kind::Calls, SHORT, ".answers-changed");
+    let short = told_apart(rt, Kind::Calls, SHORT, ".answers-short");
+    let long = told_apart(rt, Kind::Calls, SHORT, ".answers-long");
+    let early = told_apart(rt, Kind::Calls, LONG_CALLS, ".answers-changed");
+    let told = sum(changed, short, long, early);
+    println!(rt; "{told} of 4 wrong answers to calls told apart")
 }
 
-fn main() {
-    recorded(Kind::Events, b".out", b" the same\n");
-    wrong_events();
-    recorded(Kind::Calls, b".answers", b" call files the same\n");
-    wrong_calls();
+fn main(rt: HostRuntime) -> io::Result<()> {
+    recorded(&rt, Kind::Events, ".out", "the same")?;
+    wrong_events(&rt)?;
+    recorded(&rt, Kind::Calls, ".answers", "call files the same")?;
+    wrong_calls(&rt)
 }

@@ -1,6 +1,5 @@
 -- Laws of a run: nothing that is printed is cut, and all of it is handed over once. Assumes nothing.
-use Rattle.std.proofs.Common.{◌≡◌, ℕ, ◌+◌, ◌^◌, ◌<◌, ◌≤◌, Bool, true, false, cond, not, ltb, ◌⊎◌, List, [], ◌∷◌, ◌++◌, length, take, drop, sym, refl, ap, ◌∙◌, subst, inl, inr, append_assoc, append-nil, arith, length-append, length-take-le, take_at, ltb-true, le-ltb, lt-ltb}
-use denote.Enum.Declared.{tag_of}
+use Rattle.std.proofs.Common.{◌≡◌, ℕ, ◌+◌, ◌^◌, ◌<◌, ◌≤◌, Bool, true, false, cond, not, ltb, List, [], ◌∷◌, ◌++◌, length, take, drop, sym, refl, ap, ◌∙◌, subst, append_assoc, append-nil, arith, length-append, length-take-le, take_at, ltb-true, le-ltb, lt-ltb}
 use lib.Seq.{sets-eq}
 use native.Mathlib.Nat.{mod-add-mod}
 use Rattle.report.proofs.Lengths.{bad_short}
@@ -19,7 +18,6 @@ use Rattle.script.specs.declared.card.After.{After}
 use Rattle.script.specs.declared.card.Card.{Card}
 use Rattle.script.specs.declared.reading.Want.TheVariants.{Mac, Addresses, Address, Events, Event, Nothing, Failed}
 use Rattle.script.specs.declared.reading.Want.{Want}
-use Rattle.streams.specs.contracts.reader.Line as Line'
 use Rattle.streams.proofs.ReadingLaws.{Held, held}
 use Rattle.streams.specs.Reading.{reader, Fits, Next}
 use Rattle.streams.specs.Writing.{wrapped, sink_of, hand_over, counted_by}
@@ -59,14 +57,12 @@ ends_quiet end x out at e h = rw e (all_put (put_none out at) (omega arith) h)
 pub missing : (l : Line) (w : Want) (n : ℕ) → l ≡ End → complete w ≡ false → BadLine n ≡ end_of l w n
 missing l w n p q = rw (p, q) refl
 
--- what is none of a match's other arms
-pub no_line : (l : Line) → (tag_of Line'.the_type l ≡ 1) ⊎ ((tag_of Line'.the_type l ≡ 2) ⊎ (tag_of Line'.the_type l ≡ 3)) → NoLine l
+-- what is no line by the match
+pub no_line : (l : Line) → ((from to : ℕ) (left : Reader) → l ≡ At from to left → ⊥) → NoLine l
 no_line End h = tt
 no_line (Long left) h = tt
 no_line Error h = tt
-no_line (At from to left) (inl z) = absurd (omega arith)
-no_line (At from to left) (inr (inl z)) = absurd (omega arith)
-no_line (At from to left) (inr (inr z)) = absurd (omega arith)
+no_line (At from to left) h = h from to left refl
 
 pub for_sink : {buf : List ℕ} {s t : Sink} {r : Ran} {buf' : List ℕ} → s ≡ t → RunTo buf s r buf' → RunTo buf t r buf'
 for_sink e p = rw (← e) p
@@ -92,7 +88,7 @@ flushes s at r h a b = record { place = rw (le-ltb at gathered h) a; sink = rw (
 twice : (a n : ℕ) (s : Sink) → hand_over n (hand_over a s) ≡ hand_over (a + n) s
 twice a n s =
     let e : s.handed + a + n ≡ s.handed + (a + n) = omega arith in
-    ap (sink_of s.target) (mod-add-mod (s.handed + a) (2 ^ 64) n ∙ ap wrapped e)
+    ap sink_of (mod-add-mod (s.handed + a) (2 ^ 64) n ∙ ap wrapped e)
 
 take_put : (text out : List ℕ) (at : ℕ) → at + length text ≤ length out → take (at + length text) (put out at text) ≡ take at out ++ text
 unfolding put

@@ -1,6 +1,6 @@
--- A run of the event program: what is threaded from line to line, and what is handed over. No contract can say what a descriptor gives
--- or takes: the lines are those of the bytes that reads brought, and the sink counts what it was handed. That these are the system's bytes,
--- and that the sink hands on what it is handed, is tested (crates/replay). Assumes nothing.
+-- A run of the event program: what is threaded from line to line, and what is handed over. No contract can say what the system's
+-- readers give and its writers take: the lines are those of the bytes that reads brought, and the sink counts what it was handed. That these
+-- are the system's bytes, and that they are handed on, is tested (crates/replay). Assumes nothing.
 use Rattle.std.specs.Prelude.{◌≡◌, ℕ, ◌+◌, ◌-◌, ◌<◌, ◌≤◌, true, cond, List, [], ◌∷◌, ◌++◌, length, take, drop, replicate, ◌≢◌, nat_lt}
 use Rattle.text.specs.Place.{put}
 use Rattle.streams.specs.Reading.{reader, Next}

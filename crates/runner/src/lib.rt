@@ -1,16 +1,18 @@
-// Runs the event program: the lines of a descriptor are carried out one by one, and what they print goes to a sink. Memory is
+// Runs the event program: the lines of a reader are carried out one by one, and what they print goes to a sink. Memory is
 // constant: a block of input, a block of output, and the state.
 #![tactic(auto)]
 
 ghost use Rattle.std.specs.Prelude.{◌≡◌, ◌<◌, ◌≤◌, length};
+ghost use Rattle.streams.specs.Writing.{is_written};
 ghost use Rattle.runner.specs.OutputRules.{failed, complete, end_of, end_text};
 ghost use Rattle.runner.specs.RunRules.{begun_run, Room, Whole, FlushedTo, Turned, Ends, Finished, RunTo, RunOf};
 
 use report::answer;
 use script::card::Card;
 use script::reading::Want;
+use std::io::{Read, Write};
 use streams::reader::{Line, Reader, next_line};
-use streams::sink::{Sink, done, emit};
+use streams::sink::{Sink, Target, done, emit};
 
 // What is printed is gathered up to here before it is handed over.
 const GATHERED: usize = 57344;
@@ -90,14 +92,15 @@ struct Flush {
 }
 
 // Hands over what is gathered, where that is much.
-fn flushed(sink: Sink, out: &[u8], at: usize) -> Flush
+fn flushed<W: Write, R: Read>(sink: Sink, target: &mut Target<W, R>, out: &[u8], at: usize) -> Flush
     requires { at ≤ length out.now }
-    ensures { FlushedTo sink at result }
+    ensures flushed { FlushedTo sink at result }
+    ensures kind { is_written target.new ≡ is_written target.old }
 {
     if at < GATHERED {
         return Flush { ok: true, at, sink };
     }
-    let emitted = emit(sink, &out[..at]);
+    let emitted = emit(sink, target, &out[..at]);
     let after = emitted.sink;
     Flush {
         ok: emitted.ok,
@@ -122,16 +125,22 @@ fn begun(sink: Sink) -> Progress
 }
 
 // One line is carried out, and what it printed is gathered or handed over.
-fn turn(run: Progress, line: &[u8], out: &mut [u8]) -> Progress
+fn turn<W: Write, R: Read>(
+    run: Progress,
+    target: &mut Target<W, R>,
+    line: &[u8],
+    out: &mut [u8],
+) -> Progress
     requires { Room run.at out.old }
-    ensures { Turned run line.now out.old result out.new }
+    ensures turned { Turned run line.now out.old result out.new }
+    ensures kind { is_written target.new ≡ is_written target.old }
 {
     let card = run.card;
     let want = run.want;
     let sink = run.sink;
     let after = card.step(want, line, out, run.at);
-    let flush = flushed(sink, out, after.at);
-    let number = std::num::wrapping_add_u64(run.number, 1);
+    let flush = flushed(sink, target, out, after.at);
+    let number = run.number.wrapping_add(1);
     let next_want = after.want;
     let next_card = after.card;
     let next_sink = flush.sink;
@@ -178,11 +187,18 @@ fn put_end(end: Ended, card: Card, out: &mut [u8], at: usize) -> usize
 }
 
 // Hands over what is gathered. Nothing may follow it.
-fn last(sink: Sink, end: Ended, out: &[u8], at: usize) -> Ran
+fn last<W: Write, R: Read>(
+    sink: Sink,
+    target: &mut Target<W, R>,
+    end: Ended,
+    out: &[u8],
+    at: usize,
+) -> Ran
     requires { at ≤ length out.now }
-    ensures { Ends end at sink result }
+    ensures ends { Ends end at sink result }
+    ensures kind { is_written target.new ≡ is_written target.old }
 {
-    let handed = emit(sink, &out[..at]);
+    let handed = emit(sink, target, &out[..at]);
     let after = handed.sink;
     if !handed.ok {
         return Ran {
@@ -190,7 +206,7 @@ fn last(sink: Sink, end: Ended, out: &[u8], at: usize) -> Ran
             sink: after,
         };
     }
-    if !done(after) {
+    if !done(target) {
         return Ran {
             ended: Ended::NotWritten,
             sink: after,
@@ -202,32 +218,45 @@ fn last(sink: Sink, end: Ended, out: &[u8], at: usize) -> Ran
     }
 }
 
-fn finish(run: Progress, end: Ended, out: &mut [u8]) -> Ran
+fn finish<W: Write, R: Read>(
+    run: Progress,
+    target: &mut Target<W, R>,
+    end: Ended,
+    out: &mut [u8],
+) -> Ran
     requires { Room run.at out.old }
-    ensures { Finished run end out.old result out.new }
+    ensures finished { Finished run end out.old result out.new }
+    ensures kind { is_written target.new ≡ is_written target.old }
 {
     let card = run.card;
     let sink = run.sink;
     let at = put_end(end, card, out, run.at);
-    last(sink, end, out, at)
+    last(sink, target, end, out, at)
 }
 
 // Line by line, with a buffer for the input and one for the output.
-fn run_lines(fd: i32, sink: Sink, buf: &mut [u8], out: &mut [u8]) -> Ran
+fn run_lines<I: Read, W: Write, R: Read>(
+    input: &mut I,
+    target: &mut Target<W, R>,
+    sink: Sink,
+    buf: &mut [u8],
+    out: &mut [u8],
+) -> Ran
     requires { (4096 < length buf.old) × (65536 ≤ length out.old) }
-    ensures { RunTo buf.old sink result buf.new }
+    ensures run { RunTo buf.old sink result buf.new }
+    ensures kind { is_written target.new ≡ is_written target.old }
 {
     let mut run = begun(sink);
     let mut reader = Reader { start: 0, end: 0 };
     loop {
-        let line = next_line(fd, buf, reader);
+        let line = next_line(input, buf, reader);
         let Line::At(from, to, left) = line else {
             let wanted = run.want;
             let end = end_of(line, wanted, run.number);
-            return finish(run, end, out);
+            return finish(run, target, end, out);
         };
         let number = run.number;
-        run = turn(run, &buf[from..to], out);
+        run = turn(run, target, &buf[from..to], out);
         if !run.ok {
             let after = run.sink;
             return Ran {
@@ -237,17 +266,18 @@ fn run_lines(fd: i32, sink: Sink, buf: &mut [u8], out: &mut [u8]) -> Ran
         }
         let want = run.want;
         if is_failed(want) {
-            return finish(run, Ended::BadLine(number), out);
+            return finish(run, target, Ended::BadLine(number), out);
         }
         reader = left;
     }
 }
 
-// Runs the events of fd, and answers how that ended.
-pub fn run(fd: i32, sink: Sink) -> Ran
-    ensures { RunOf sink result }
+// Runs the events of input, and answers how that ended.
+pub fn run<I: Read, W: Write, R: Read>(input: &mut I, target: &mut Target<W, R>, sink: Sink) -> Ran
+    ensures run { RunOf sink result }
+    ensures kind { is_written target.new ≡ is_written target.old }
 {
     let mut buf = [0u8; INPUT];
     let mut out = [0u8; OUTPUT];
-    run_lines(fd, sink, &mut buf, &mut out)
+    run_lines(input, target, sink, &mut buf, &mut out)
 }
