@@ -1,23 +1,16 @@
 -- Laws of carrying an event out: what the calls' contracts say, put together. Assumes nothing.
 use Prim.Native.Nat.{ℕ, ◌≤◌}
-use lib.ListN.{length, take}
-use lib.Seq.{length-take-le}
-use mathlib.Core.Bool.{true, false}
+use lib.ListN.{length}
 use mathlib.Core.List.{List, []}
-use mathlib.Core.Path.{◌≡◌, sym, ap, ap₂, ◌∙◌}
+use mathlib.Core.Path.{◌≡◌, ap, ap₂, ◌∙◌}
 use native.Mathlib.Omega.{arith}
-use Rattle.iface.specs.AddressRules.{empty_addrs, addrs_of}
-use Rattle.iface.specs.RouteRules.{empty_routes, routes_of}
-use Rattle.iface.specs.declared.addr.IfaceAddrs.{IfaceAddrs}
-use Rattle.iface.specs.declared.route.Routes.{Routes}
-use Rattle.slaac.specs.DiscoveryRules.{fresh, RestartedTo}
+use Rattle.iface.specs.AddressRules.{addrs_of}
+use Rattle.iface.specs.RouteRules.{routes_of}
 use Rattle.slaac.specs.LearnedRules.{prefixes_of, routers_of}
-use Rattle.slaac.specs.declared.Changed.{Changed as Restarted}
-use Rattle.slaac.specs.declared.Slaac.{Slaac}
 use Rattle.lines.specs.EventLines.{ReadyEvent}
-use Rattle.lines.specs.declared.event.Event.TheVariants.{Ra, Remove}
+use Rattle.lines.specs.declared.event.Event.TheVariants.{Remove}
 use Rattle.lines.specs.declared.event.Event.{Event}
-use Rattle.neighbor.specs.CacheCalls.{empty, entries, StartTo, FillTo, RemovedTo}
+use Rattle.neighbor.specs.CacheCalls.{entries, StartTo, FillTo, RemovedTo}
 use Rattle.neighbor.specs.declared.Changed.{Changed}
 use Rattle.neighbor.specs.declared.NeighborCache.{NeighborCache}
 use Rattle.neighbor.specs.declared.Removed.{Removed}
@@ -28,7 +21,7 @@ use Rattle.report.specs.AnswerLines.{Printed, event_most}
 use Rattle.report.specs.StateLines.{prefixes_text, routers_text, addresses_text, routes_text, neighbors_text, state_text, section_most}
 use Rattle.script.proofs.PrintedLaws.{poll_short, ra_short, change_short}
 use Rattle.script.specs.PrintedRules.{poll_text, ra_text, change_text, sweep_text}
-use Rattle.script.specs.CardRules.{DidCache, CachedTo, start_cache, fill_cache, sweep_cache, remove_cache, Did, did, on_cache, card_of, new_card, with_cache, instant, up_card, polled_card, sixteen, poll_card, heard_card, ra_card, left_card, off_card, carry_out, message_for, Fits, CarriedTo, listed_text, Listed}
+use Rattle.script.specs.CardRules.{DidCache, CachedTo, start_cache, fill_cache, sweep_cache, remove_cache, Did, did, with_cache, instant, polled_card, sixteen, poll_card, heard_card, ra_card, left_card, off_card, carry_out, message_for, CarriedTo, listed_text, Listed}
 use Rattle.script.specs.declared.card.Card.{Card}
 use Rattle.script.specs.declared.card.Carried.{Carried}
 use Rattle.script.specs.declared.neighbors.Cached.{Cached}
@@ -79,14 +72,6 @@ remove_done c a p w = ap (λ (q : Removed). q.cache) w.is
 
 -- ---- the state
 
-pub new_card_lem : {s : Slaac} {t : IfaceAddrs} {r : Routes} {c : NeighborCache} → s ≡ fresh true → t ≡ empty_addrs → r ≡ empty_routes → c ≡ empty
-    → card_of s t r c (record { hi = 0; lo = 0 }) false ≡ new_card
-new_card_lem p q e f = λ i. card_of (p i) (q i) (e i) (f i) (record { hi = 0; lo = 0 }) false
-
-pub up_card_lem : (x : Card) (r : Restarted) → RestartedTo x.slaac 0 r
-    → card_of r.slaac x.addrs x.routes x.cache x.hardware_addr true ≡ up_card x
-up_card_lem x r w = ap (λ (y : Restarted). card_of y.slaac x.addrs x.routes x.cache x.hardware_addr true) w.is
-
 pub off_card_lem : (x : Card) (q : PendingQueue) (p : TurnedOff) → q ≡ noPackets → TurnedOffTo x.slaac x.addrs x.routes x.cache q 0 p → left_card x p ≡ off_card x
 unfolding off_card
 off_card_lem x q p e w =
@@ -121,16 +106,6 @@ module _ (x : Card) (t : ℕ) (v : Event) (message : List ℕ) where
       → CarriedTo (carry_out x t v (message_for v message)) out at (record { card = y; at = at }) out
   quiet e y z {out} {at} p q g = rw (p, g) (record { card = q; put = put_none out at; short = omega arith })
 
-  pub at_event : (e : Event) {out out' : List ℕ} {at : ℕ} {r : Carried} → v ≡ e → CarriedTo (carry_out x t e (message_for e message)) out at r out'
-      → CarriedTo (carry_out x t v (message_for v message)) out at r out'
-  at_event e p w = rw p w
-
-  -- one of the neighbours'
-  pub at_cache : (e : Event) (d : DidCache) {out out' : List ℕ} {at : ℕ} {c : Cached} {r : Carried} → v ≡ e → carry_out x t e (message_for e message) ≡ on_cache x d
-      → CachedTo d out at c out' → (r.card ≡ with_cache x c.cache) × (r.at ≡ c.at) → CarriedTo (carry_out x t v (message_for v message)) out at r out'
-  at_cache e d p g w q =
-      rw (p, g) (record { card = q.0 ∙ ap (with_cache x) w.cache; put = rw q.1 w.put; short = w.short })
-
   pub at_remove : (a : Ipv6Addr) {out : List ℕ} {at : ℕ} {c : Cached} {r : Carried} → v ≡ Remove a → (c.cache ≡ remove_cache x.cache a) × (c.at ≡ at)
       → (r.card ≡ with_cache x c.cache) × (r.at ≡ c.at) → CarriedTo (carry_out x t v (message_for v message)) out at r out
   at_remove a {out} {at} p w q =
@@ -153,9 +128,3 @@ listed x p q s t u =
           state_short (prefixes_of x.slaac) (routers_of x.slaac) (addrs_of x.addrs) (routes_of x.routes) (entries x.cache)
           p.short q.short s.short t.short u.short;
     }
-
--- the part of the buffer that is an advertisement's message
-pub ra_part : (message : List ℕ) (v : Event) (a : Ipv6Addr) (n : ℕ) → v ≡ Ra a n → Fits (length message) v → n ≡ length (take n message)
-ra_part message v a n p f =
-    let h : n ≤ length message = rw p at f in
-    sym (length-take-le n message h)

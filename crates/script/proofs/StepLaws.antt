@@ -10,14 +10,11 @@ use Rattle.wire.specs.declared.error.Outcome.{Outcome}
 use Rattle.iface.specs.declared.addr.Added.{Added}
 use Rattle.iface.specs.declared.addr.IfaceAddrs.{IfaceAddrs}
 use Rattle.lines.specs.EventLines.{parsed_bytes}
-use Rattle.lines.specs.declared.event.Event.{Event as AnEvent}
 use Rattle.script.proofs.CardLaws.{heard}
-use Rattle.script.specs.CardRules.{carry_out, message_for, CarriedTo}
 use Rattle.script.specs.ReadingRules.{said_in, next_of, rank, ReadySaid, SaidTo}
-use Rattle.script.specs.StepRules.{Went, quietly, with_addrs, added_by, added, added_card, apply_of, room, step_of, Applied, Stepped, message_in, FitsSaid, StepTo}
+use Rattle.script.specs.StepRules.{Went, quietly, with_addrs, added_by, added, added_card, apply_of, room, step_of, Applied, Stepped, message_in, StepTo}
 use Rattle.script.specs.declared.card.After.{After}
 use Rattle.script.specs.declared.card.Card.{Card}
-use Rattle.script.specs.declared.card.Carried.{Carried}
 use Rattle.script.specs.declared.reading.Said.TheVariants.{Bad, Mac, Next, Static, Event}
 use Rattle.script.specs.declared.reading.Said.{Said}
 use Rattle.script.specs.declared.reading.Want.TheVariants.{Failed}
@@ -62,25 +59,7 @@ module _ (x : Card) (s : Said) (message : List ℕ) where
   of_address c w r {out} {at} p v =
       rw p (record { want = v.want; card = v.card; put = rw v.place (put_as (sym v.text) (put_none out at)); short = rw v.text (omega arith) })
 
-  pub of_event : (t : ℕ) (e : AnEvent) (w : Want) (d : Carried) {out out' : List ℕ} {at : ℕ} → s ≡ Event t e w
-      → CarriedTo (carry_out x t e (message_for e message)) out at d out'
-      → Stepped (apply_of x s (message_in s message)) out at (record { want = w; card = d.card; at = d.at }) out'
-  of_event t e w d p v = rw p (record { want = refl; card = v.card; put = v.put; short = v.short })
-
-pub event_fits : (n : ℕ) (s : Said) (t : ℕ) (e : AnEvent) (w : Want) → s ≡ Event t e w → FitsSaid n s → FitsSaid n (Event t e w)
-event_fits n s t e w p f = rw p at f
-
 -- ---- a line
-
-said_fits : (s : Said) (message bs : List ℕ) → ReadySaid message bs s → FitsSaid (length message) s
-said_fits Bad message bs w = omega arith
-said_fits (Mac h) message bs w = omega arith
-said_fits (Next v) message bs w = omega arith
-said_fits (Static c v) message bs w = omega arith
-said_fits (Event t e v) message bs w = w.0
-
-pub line_fits : {before : List ℕ} {w : Want} {line message : List ℕ} {s : Said} → SaidTo before w line s message → FitsSaid (length message) s
-line_fits {message = message} {s = s} p = said_fits s message _ p.ready
 
 said_heard : (x : Card) (s : Said) (message bs : List ℕ) → ReadySaid message bs s → apply_of x s (message_in s message) ≡ apply_of x s bs
 said_heard x Bad message bs w = refl

@@ -1,0 +1,7 @@
+use Rattle.std.proofs.Common.{sym, ap}
+use Rattle.script.specs.PrintedRules.{ra_text}
+use Rattle.text.proofs.PlaceLaws.{put_as, put_none}
+use Rattle.script.proofs.printed.ra.Goals as goal
+
+pub returns-in-Done : goal.returns-in-Done
+returns-in-Done c = put_as (ap (ra_text c.args.time) (sym c.in-Done.is)) (put_none _ _)
