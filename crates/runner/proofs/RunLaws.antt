@@ -1,20 +1,17 @@
 -- Laws of a run: nothing that is printed is cut, and all of it is handed over once. Assumes nothing.
-use Rattle.std.proofs.Common.{◌≡◌, ℕ, ◌+◌, ◌^◌, ◌<◌, ◌≤◌, Bool, true, false, cond, not, ltb, List, [], ◌∷◌, ◌++◌, length, take, drop, sym, refl, ap, ◌∙◌, subst, append_assoc, append-nil, arith, length-append, length-take-le, take_at, ltb-true, le-ltb, lt-ltb}
+use Rattle.std.proofs.Common.{◌≡◌, ℕ, ◌+◌, ◌^◌, ◌<◌, ◌≤◌, Bool, true, false, cond, not, ltb, List, [], ◌∷◌, ◌++◌, length, take, drop, sym, refl, ap, ◌∙◌, subst, append_assoc, append-nil, arith, length-append, length-take-le, take_at, ltb-true, lt-ltb}
 use lib.Seq.{sets-eq}
 use native.Mathlib.Nat.{mod-add-mod}
 use Rattle.report.proofs.Lengths.{bad_short}
 use Rattle.report.specs.AnswerLines.{bad_line}
-use Rattle.runner.specs.OutputRules.{failed, complete, end_of, end_text, output_from, ending_from, output_after, ending_after}
-use Rattle.runner.specs.RunRules.{gathered, Room, Whole, FlushedTo, begun_run, Turned, Ends, Finished, bytes, Came, none, another, NoLine, stops, enough, RunTo}
-use Rattle.runner.specs.declared.Ended.TheVariants.{Listed as IsListed, BadLine, NotWritten}
+use Rattle.runner.specs.OutputRules.{failed, end_of, end_text, output_from, ending_from, output_after, ending_after}
+use Rattle.runner.specs.RunRules.{gathered, Room, Whole, begun_run, Turned, Finished, bytes, Came, none, another, NoLine, stops, enough, RunTo}
+use Rattle.runner.specs.declared.Ended.TheVariants.{BadLine, NotWritten}
 use Rattle.runner.specs.declared.Ended.{Ended}
-use Rattle.runner.specs.declared.Flush.{Flush}
 use Rattle.runner.specs.declared.Progress.{Progress}
 use Rattle.runner.specs.declared.Ran.{Ran}
-use Rattle.script.specs.CardRules.{Listed}
 use Rattle.script.specs.ReadingRules.{said_in, rank}
-use Rattle.script.specs.StepRules.{step_of, StepTo}
-use Rattle.script.specs.declared.card.After.{After}
+use Rattle.script.specs.StepRules.{step_of}
 use Rattle.script.specs.declared.card.Card.{Card}
 use Rattle.script.specs.declared.reading.Want.TheVariants.{Mac, Addresses, Address, Events, Event, Nothing, Failed}
 use Rattle.script.specs.declared.reading.Want.{Want}
@@ -35,16 +32,7 @@ all_put p t h =
     let n = p.next in
     record { is = p.is; place = omega (arith, h.0, h.1); same = p.same; within = omega (arith, h.0, h.1) }
 
--- for all that a line prints
-pub whole : {w : Want} {x : Card} {line out out' : List ℕ} {at : ℕ} {r : After} → StepTo w x line out at r out' → Room at out
-    → Whole (step_of w x line).text out at r.at out'
-whole p h = let s = p.is.short in all_put p.is.put (omega arith) h
-
--- and for all of the end
-pub ends_listed : (end : Ended) (x : Card) {out out' : List ℕ} {at r : ℕ} → end ≡ IsListed → Listed x out at r out' → Room at out
-    → Whole (end_text end x) out at r out'
-ends_listed end x e v h = rw e (all_put v.put v.short h)
-
+-- for all of the end
 pub ends_bad : (end : Ended) (x : Card) (n : ℕ) {out out' : List ℕ} {at r : ℕ} → end ≡ BadLine n → Put out at (bad_line n) r out' → Room at out
     → Whole (end_text end x) out at r out'
 ends_bad end x n e p h = let s = (bad_short n).is in rw e (all_put p (omega arith) h)
@@ -53,9 +41,6 @@ pub ends_quiet : (end : Ended) (x : Card) (out : List ℕ) (at : ℕ) → end_te
 ends_quiet end x out at e h = rw e (all_put (put_none out at) (omega arith) h)
 
 -- ---- the end
-
-pub missing : (l : Line) (w : Want) (n : ℕ) → l ≡ End → complete w ≡ false → BadLine n ≡ end_of l w n
-missing l w n p q = rw (p, q) refl
 
 -- what is no line by the match
 pub no_line : (l : Line) → ((from to : ℕ) (left : Reader) → l ≡ At from to left → ⊥) → NoLine l
@@ -69,21 +54,9 @@ for_sink e p = rw (← e) p
 
 -- ---- what is gathered and what was handed over
 
-pub emitted : (out : List ℕ) (at : ℕ) (s : Sink) (ok : Bool) {t : Sink} → at ≤ length out → t ≡ counted_by ok (length (take at out)) s → t ≡ counted_by ok at s
-emitted out at s ok h e = e ∙ ap (λ (n : ℕ). counted_by ok n s) (length-take-le at out h)
-
 pub not-false : (b : Bool) → not b ≡ false → b ≡ true
 not-false true e = refl
 not-false false e = sym e
-
-pub went_well : (n : ℕ) (s : Sink) {ok : Bool} {t : Sink} → t ≡ counted_by ok n s → ok ≡ true → t ≡ hand_over n s
-went_well n s e o = e ∙ ap (λ (b : Bool). counted_by b n s) o
-
-pub keeps : (s : Sink) (at : ℕ) (r : Flush) → at < gathered → r.at ≡ at → r.sink ≡ s → r.ok ≡ true → FlushedTo s at r
-keeps s at r h a b c = record { place = rw (lt-ltb at gathered h) a; sink = rw (lt-ltb at gathered h) b; well = λ k. c }
-
-pub flushes : (s : Sink) (at : ℕ) (r : Flush) → gathered ≤ at → r.at ≡ 0 → r.sink ≡ counted_by r.ok at s → FlushedTo s at r
-flushes s at r h a b = record { place = rw (le-ltb at gathered h) a; sink = rw (le-ltb at gathered h) b; well = λ k. absurd (omega arith) }
 
 twice : (a n : ℕ) (s : Sink) → hand_over n (hand_over a s) ≡ hand_over (a + n) s
 twice a n s =

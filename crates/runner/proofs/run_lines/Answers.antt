@@ -1,4 +1,4 @@
-use Rattle.std.proofs.Common.{◌≡◌, sym, refl, ap, ◌∙◌, arith, rules}
+use Rattle.std.proofs.Common.{sym, refl, ap, ◌∙◌, arith}
 use Rattle.runner.proofs.RunLaws.{starts_at, for_sink, no_line, over_by, line_held, not-false, not_written, bad_line_lem, turned_on}
 use Rattle.runner.specs.declared.Progress.{Progress}
 use Rattle.runner.proofs.run_lines.Goals as goal
