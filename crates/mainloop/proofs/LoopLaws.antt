@@ -1,13 +1,10 @@
 -- Laws of the turns: what the calls' contracts say, put together. Assumes nothing.
-use Prim.Native.Nat.{ℕ, zero, suc, ◌+◌, ◌-◌, ◌≤◌, ◌<◌, min}
-use denote.Enum.Declared.{tag_of}
-use lib.ListN.{length, take, drop, get_or, set, replicate, length-take, length-drop, length-set, drop_of_length-le}
+use Prim.Native.Nat.{ℕ, ◌+◌, ◌≤◌, ◌<◌, min}
+use lib.ListN.{length, take, drop, get_or, set, replicate, length-take, length-set, drop_of_length-le}
 use lib.Seq.{length-take-le, drop-set-lt}
 use mathlib.Core.Bool.{Bool, false}
 use mathlib.Core.List.{List, [], ◌∷◌}
-use mathlib.Core.Logic.{◌⊎◌, inl, inr}
 use mathlib.Core.Path.{◌≡◌, refl, ap, ap₂, sym, subst, ◌∙◌}
-use native.Mathlib.Nat.{zero-min, min-zero, suc-min-suc}
 use native.Mathlib.Omega.{arith}
 use Rattle.table.proofs.Laws.{made, entry_at, entries_from, one_more, agree_from}
 use Rattle.table.specs.Table.{fold_over}
@@ -24,7 +21,6 @@ use Rattle.wire.specs.declared.error.Refusal.{Refusal}
 use Rattle.wire.specs.declared.ethernet.HardwareAddress.{HardwareAddress}
 use Rattle.wire.specs.declared.ipv6.Ipv6Addr.{Ipv6Addr}
 use Rattle.wire.specs.Refusals.{time_rows, time_check, decided, Tested}
-use Rattle.neighbor.specs.contracts.Answer as Answer'
 use Rattle.neighbor.specs.declared.Answer.{Answer as Known}
 use Rattle.neighbor.specs.declared.Answer.TheVariants.{Refused as NotAsked, Found, Pending, NotFound}
 use Rattle.neighbor.specs.declared.Changed.{Changed}
@@ -37,17 +33,14 @@ use Rattle.pending.specs.declared.Purged.{Purged}
 use Rattle.pending.specs.declared.Pushed.{Pushed}
 use Rattle.pending.specs.QueueRules.{orphaned}
 use Rattle.pending.specs.QueueCalls.{handles_of, purged_of, OrphansPurged, PushedTo}
-use Rattle.slaac.specs.DiscoveryRules.{RestartedTo}
-use Rattle.slaac.specs.declared.Changed.{Changed as Restarted}
 use Rattle.autoconf.specs.declared.Advertised.{Advertised}
-use Rattle.autoconf.specs.declared.PollAnswer.TheVariants.{Refused as NotPolled, Quiet}
+use Rattle.autoconf.specs.declared.PollAnswer.TheVariants.{Refused as NotPolled}
 use Rattle.autoconf.specs.declared.PolledAt.{PolledAt}
 use Rattle.autoconf.specs.AdvertRules.{AdvertisedTo}
 use Rattle.autoconf.specs.PollRules.{poll_buffer, PolledTo}
 use Rattle.mainloop.specs.declared.Action.TheVariants.{Nothing, Heard, HeardFrom, Refused, Send, Wait, Solicit}
 use Rattle.mainloop.specs.declared.Card.{Card}
-use Rattle.mainloop.specs.declared.Input.{Input}
-use Rattle.mainloop.specs.declared.Input.TheVariants.{Timer, LinkUp}
+use Rattle.mainloop.specs.declared.Input.TheVariants.{Timer}
 use Rattle.mainloop.specs.declared.Ready.{Ready}
 use Rattle.mainloop.specs.declared.Inbox.{Inbox}
 use Rattle.mainloop.specs.declared.Report.{Report}
@@ -56,7 +49,7 @@ use Rattle.mainloop.specs.declared.Settled.{Settled}
 use Rattle.mainloop.specs.declared.Taken.{Taken}
 use Rattle.mainloop.specs.declared.Turned.{Turned}
 use Rattle.mainloop.specs.declared.Woken.{Woken}
-use Rattle.mainloop.specs.LoopRules.{card_with, push_of, start_of, sent_by, sent, ready_of, goes_to, fill_of, filled_by, filled, learned_by, learned, heard_by, heard_as, heard, taken_in, taken_by, taken, poll_of, buffer_after, first_sweep, last_sweep, settled_by, settled_after, not_settled, settled, SettledTo, message_in, taken_of, turn_by, turned, turn_buffer, TurnedTo, Between, before, after_turn, turn_in, run_over, blank_report, reports_of, ran_by, RanTo}
+use Rattle.mainloop.specs.LoopRules.{card_with, push_of, start_of, sent_by, sent, ready_of, goes_to, fill_of, filled_by, filled, learned_by, learned, heard_by, heard_as, heard, taken, poll_of, buffer_after, first_sweep, last_sweep, settled_by, settled_after, not_settled, settled, SettledTo, message_in, taken_of, turn_by, turned, turn_buffer, TurnedTo, Between, before, after_turn, turn_in, run_over, blank_report, reports_of, ran_by, RanTo}
 
 -- A packet
 
@@ -115,14 +108,8 @@ module _ (x : Card) (addr : Ipv6Addr) (hw : HardwareAddress) (now : Instant) (kn
   pub learn_pending : known ≡ Pending → (r : Taken) → r ≡ filled x addr hw now → r ≡ learned x addr hw now
   learn_pending e r f = f ∙ learn_by Pending e
 
-  pub learn_known : tag_of Answer'.the_type known ≡ 1 → (r : Taken) → r ≡ filled x addr hw now → r ≡ learned x addr hw now
-  learn_known t r f = f ∙ (go known t ∙ learn_by known refl)
-    where
-      go : (k : Known) → tag_of Answer'.the_type k ≡ 1 → filled x addr hw now ≡ learned_by k x addr hw now
-      go (NotAsked why) t = absurd (omega arith)
-      go (Found old) t = refl
-      go Pending t = absurd (omega arith)
-      go NotFound t = absurd (omega arith)
+  pub learn_known : (old : HardwareAddress) → known ≡ Found old → (r : Taken) → r ≡ filled x addr hw now → r ≡ learned x addr hw now
+  learn_known old e r f = f ∙ learn_by (Found old) e
 
 -- An advertisement
 
@@ -136,46 +123,20 @@ module _ (x : Card) (source : Ipv6Addr) (message : List ℕ) (now : Instant) (r 
   by_known = ap (λ (k : Known). heard_by k after source r.answer) l.is ∙ ap (heard_as x source) w.is
 
   -- its router is not known as a neighbour
-  pub hear_only : (tag_of Answer'.the_type known ≡ 0) ⊎ ((tag_of Answer'.the_type known ≡ 2) ⊎ (tag_of Answer'.the_type known ≡ 3)) → (ready : Handles) → ready ≡ handles_of []
+  pub hear_only : ((hw : HardwareAddress) → known ≡ Found hw → ⊥) → (ready : Handles) → ready ≡ handles_of []
       → record { card = after; action = Heard r.answer; ready = ready } ≡ heard x source message now
-  hear_only t ready none = ap (λ (y : Handles). record { card = after; action = Heard r.answer; ready = y }) none ∙ (go known t ∙ by_known)
+  hear_only unknown ready none = ap (λ (y : Handles). record { card = after; action = Heard r.answer; ready = y }) none ∙ (go known unknown ∙ by_known)
     where
-      go : (k : Known) → (tag_of Answer'.the_type k ≡ 0) ⊎ ((tag_of Answer'.the_type k ≡ 2) ⊎ (tag_of Answer'.the_type k ≡ 3))
-          → record { card = after; action = Heard r.answer; ready = handles_of [] } ≡ heard_by k after source r.answer
-      go (NotAsked why) t = refl
-      go (Found hw) (inl z) = absurd (omega arith)
-      go (Found hw) (inr (inl z)) = absurd (omega arith)
-      go (Found hw) (inr (inr z)) = absurd (omega arith)
-      go Pending t = refl
-      go NotFound t = refl
+      go : (k : Known) → ((hw : HardwareAddress) → k ≡ Found hw → ⊥) → record { card = after; action = Heard r.answer; ready = handles_of [] } ≡ heard_by k after source r.answer
+      go (NotAsked why) f = refl
+      go (Found hw) f = absurd (f hw refl)
+      go Pending f = refl
+      go NotFound f = refl
 
   pub hear_known : (hw : HardwareAddress) → known ≡ Found hw → (q : Ready) → q ≡ ready_of (key 0 source) x.queue
       → goes_to after (HeardFrom r.answer hw) r.cache q ≡ heard x source message now
   hear_known hw e q f =
       ap (goes_to after (HeardFrom r.answer hw) r.cache) f ∙ (ap (λ (k : Known). heard_by k after source r.answer) (sym e) ∙ by_known)
-
--- An input
-
-module _ (x : Card) (input : Input) (message : List ℕ) (now : Instant) (check : Check) (tested : Tested (time_rows now 0) check) where
-  by_check : (c : Check) → check ≡ c → taken_by c x input message now ≡ taken x input message now
-  by_check c e = ap (λ (y : Check). taken_by y x input message now) (sym e ∙ tested.is)
-
-  pub took_late : (why : Refusal) → check ≡ Fails why → (ready : Handles) → ready ≡ handles_of []
-      → record { card = x; action = Refused why; ready = ready } ≡ taken x input message now
-  took_late why e ready none = ap (λ (y : Handles). record { card = x; action = Refused why; ready = y }) none ∙ by_check (Fails why) e
-
-  -- that was taken apart
-  pub took : check ≡ Fine → (i : Input) (r : Taken) → input ≡ i → r ≡ taken_in x i message now → r ≡ taken x input message now
-  took fine i r e f = f ∙ (ap (λ (y : Input). taken_in x y message now) (sym e) ∙ by_check Fine fine)
-
-  pub took_timer : check ≡ Fine → input ≡ Timer → (ready : Handles) → ready ≡ handles_of [] → record { card = x; action = Nothing; ready = ready } ≡ taken x input message now
-  took_timer fine e ready none = took fine Timer _ e (ap (λ (y : Handles). record { card = x; action = Nothing; ready = y }) none)
-
-  pub took_link_up : check ≡ Fine → input ≡ LinkUp → (r : Restarted) → RestartedTo x.slaac 0 r → (ready : Handles) → ready ≡ handles_of []
-      → record { card = card_with x r.slaac x.cache x.queue; action = Nothing; ready = ready } ≡ taken x input message now
-  took_link_up fine e r w ready none =
-      took fine LinkUp _ e
-      (ap₂ (λ (y : Restarted) (z : Handles). record { card = card_with x y.slaac x.cache x.queue; action = Nothing; ready = z }) w.is none)
 
 -- The end of a turn
 
@@ -230,27 +191,6 @@ module _ (x : Card) (up : Bool) (hw : HardwareAddress) (buf : List ℕ) (now : I
 
 -- A turn
 
--- a count above the size of a list reads as the size
-
-take_clipped : (n : ℕ) (bytes : List ℕ) → take (min n (length bytes)) bytes ≡ take n bytes
-take_clipped zero bytes = ap (λ (k : ℕ). take k bytes) (zero-min (length bytes))
-take_clipped (suc n) [] = ap (λ (k : ℕ). take {A = ℕ} k []) (min-zero (suc n))
-take_clipped (suc n) (b ∷ bytes) =
-    ap (λ (k : ℕ). take k (b ∷ bytes)) (suc-min-suc n (length bytes)) ∙ ap (λ (rest : List ℕ). b ∷ rest) (take_clipped n bytes)
-
-drop_clipped : (n : ℕ) (bytes : List ℕ) → drop (min n (length bytes)) bytes ≡ drop n bytes
-drop_clipped zero bytes = ap (λ (k : ℕ). drop k bytes) (zero-min (length bytes))
-drop_clipped (suc n) [] = ap (λ (k : ℕ). drop {A = ℕ} k []) (min-zero (suc n))
-drop_clipped (suc n) (b ∷ bytes) = ap (λ (k : ℕ). drop k (b ∷ bytes)) (suc-min-suc n (length bytes)) ∙ drop_clipped n bytes
-
-pub part_done : (received : List ℕ) (from len start size : ℕ) → start ≡ min from (length received) → size ≡ min len (length received - start)
-    → take (start + size - start) (drop start received) ≡ message_in received from len
-part_done received from len start size e f =
-    let bytes : List ℕ = drop start received in
-    let clipped : start + size - start ≡ min len (length bytes) = omega (arith, f, length-drop start received) in
-    ap (λ (k : ℕ). take k bytes) clipped
-    ∙ (take_clipped len bytes ∙ ap (take len) (ap (λ (k : ℕ). drop k received) e ∙ drop_clipped from received))
-
 pub turn_done : (x : Card) (w : Woken) (received : List ℕ) (hw : HardwareAddress) (buf message : List ℕ) (t : Taken) (s : Settled) (buf' : List ℕ)
     → message ≡ message_in received w.message_from w.message_len → t ≡ taken x w.input message w.at → SettledTo t.card w.up hw buf w.at s buf'
     → TurnedTo x w received hw buf (turn_by t s) buf'
@@ -264,10 +204,6 @@ turn_done x w received hw buf message t s buf' m taking settles =
       leaves = same.leaves;
       settles = subst (λ (r : Settled). SettledTo took.card w.up hw buf w.at r buf') same.is same;
     }
-
-pub blank_done : (ready dropped : Handles) (events : Events) → ready ≡ handles_of [] → events ≡ events_table [] → dropped ≡ handles_of []
-    → record { action = Nothing; ready = ready; answer = Quiet; events = events; dropped = dropped } ≡ blank_report
-blank_done ready dropped events p q r = λ i. record { action = Nothing; ready = p i; answer = Quiet; events = q i; dropped = r i }
 
 -- A run: after `i` turns, of the `n` that there are to be
 

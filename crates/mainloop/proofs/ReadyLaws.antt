@@ -1,10 +1,8 @@
 -- Laws of releasing the packets of a key one by one. Assumes nothing.
 use Prim.Native.Nat.{ℕ, zero, suc, ◌+◌, ◌-◌, ◌<◌, ◌≤◌}
-use denote.Enum.Declared.{tag_of}
 use lib.ListN.{length, set, length-take}
 use mathlib.Core.Bool.{Bool, true, false, cond}
 use mathlib.Core.List.{List, [], ◌∷◌}
-use mathlib.Core.Logic.{◌⊎◌, inl, inr}
 use mathlib.Core.Path.{◌≡◌, refl, ap, ap₂, sym, ◌∙◌}
 use native.Mathlib.Omega.{arith}
 use Rattle.table.proofs.Laws.{Collecting, collect, collected}
@@ -13,7 +11,6 @@ use Rattle.wire.specs.declared.ipv6.Ipv6Addr.{Ipv6Addr}
 use Rattle.neighbor.specs.CacheCalls.{key}
 use Rattle.neighbor.specs.NeighborRules.{Key}
 use Rattle.pending.proofs.Calls.{packets_of}
-use Rattle.pending.specs.contracts.Release as Release'
 use Rattle.pending.specs.QueueCalls.{packets, with_packets, zeros, handle_alone, released_out, release_by, ReleasedTo}
 use Rattle.pending.specs.QueueRules.{Queue, handle_of, has_key, handed, release_list, release_answer, dropped_handles}
 use Rattle.pending.specs.declared.Handles.{Handles}
@@ -137,12 +134,11 @@ module _ (addr : Ipv6Addr) {q₀ q : PendingQueue} {slots : List ℕ} {len : ℕ
         few = omega (arith, inv.few, o.fewer, ap length left);
       }
 
-  pub ends_none : (tag_of Release'.the_type r.answer ≡ 0) ⊎ (tag_of Release'.the_type r.answer ≡ 1) → len ≤ 8
+  pub ends_none : ((h : ℕ) → r.answer ≡ Handle h → ⊥) → len ≤ 8
       → ◌≡◌ {A = Ready} (record { queue = q; handles = record { slots = slots; len = len } }) (ready_of (key 0 addr) q₀)
-  ends_none t l = ends (key 0 addr) inv (none_waits_lem (key 0 addr) (packets q) (sym w.gives ∙ nothing_out r.answer t)) l
+  ends_none unheld l = ends (key 0 addr) inv (none_waits_lem (key 0 addr) (packets q) (sym w.gives ∙ nothing_out r.answer unheld)) l
     where
-      nothing_out : (a : Release) → (tag_of Release'.the_type a ≡ 0) ⊎ (tag_of Release'.the_type a ≡ 1) → released_out a ≡ []
-      nothing_out (Refused why) t = refl
-      nothing_out Nothing t = refl
-      nothing_out (Handle h) (inl z) = absurd (omega arith)
-      nothing_out (Handle h) (inr z) = absurd (omega arith)
+      nothing_out : (a : Release) → ((h : ℕ) → a ≡ Handle h → ⊥) → released_out a ≡ []
+      nothing_out (Refused why) f = refl
+      nothing_out Nothing f = refl
+      nothing_out (Handle h) f = absurd (f h refl)
