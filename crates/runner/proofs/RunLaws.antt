@@ -1,11 +1,13 @@
 -- Laws of a run: nothing that is printed is cut, and all of it is handed over once. Assumes nothing.
-use Rattle.std.proofs.Common.{◌≡◌, ℕ, ◌+◌, ◌^◌, ◌<◌, ◌≤◌, Bool, true, false, cond, not, ltb, List, [], ◌∷◌, ◌++◌, length, take, drop, sym, refl, ap, ◌∙◌, subst, append_assoc, append-nil, arith, length-append, length-take-le, take_at, ltb-true, lt-ltb}
+use Rattle.std.proofs.Common.{◌≡◌, ℕ, ◌+◌, ◌^◌, ◌<◌, ◌≤◌, Bool, true, false, cond, not, ltb, List, [], ◌∷◌, ◌++◌, length, take, drop, sym, refl, ap, ◌∙◌, subst, append_assoc, append-nil, arith, length-append, length-take-le, take_at, ltb-true, ltb-false, lt-ltb}
 use lib.Seq.{sets-eq}
 use native.Mathlib.Nat.{mod-add-mod}
+use Rattle.std.specs.Prelude.{Option, Some, None}
+use Rattle.std.specs.Io.KnownBytes.{Appends}
 use Rattle.report.proofs.Lengths.{bad_short}
 use Rattle.report.specs.AnswerLines.{bad_line}
 use Rattle.runner.specs.OutputRules.{failed, end_of, end_text, output_from, ending_from, output_after, ending_after}
-use Rattle.runner.specs.RunRules.{gathered, Room, Whole, begun_run, Turned, Finished, bytes, Came, none, another, NoLine, stops, enough, RunTo}
+use Rattle.runner.specs.RunRules.{gathered, Room, Whole, Handed, begun_run, Turned, turned_at, Finished, Gone, ended_at, bytes, Came, none, another, NoLine, stops, enough, RunTo}
 use Rattle.runner.specs.declared.Ended.TheVariants.{BadLine, NotWritten}
 use Rattle.runner.specs.declared.Ended.{Ended}
 use Rattle.runner.specs.declared.Progress.{Progress}
@@ -17,11 +19,13 @@ use Rattle.script.specs.declared.reading.Want.TheVariants.{Mac, Addresses, Addre
 use Rattle.script.specs.declared.reading.Want.{Want}
 use Rattle.streams.proofs.ReadingLaws.{Held, held}
 use Rattle.streams.specs.Reading.{reader, Fits, Next}
-use Rattle.streams.specs.Writing.{wrapped, sink_of, hand_over, counted_by}
+use Rattle.streams.specs.Writing.{wrapped, sink_of, hand_over, counted_by, Wrote}
 use Rattle.streams.specs.declared.reader.Line.TheVariants.{At, End, Long, Error}
 use Rattle.streams.specs.declared.reader.Line.{Line}
 use Rattle.streams.specs.declared.reader.Reader.{Reader}
 use Rattle.streams.specs.declared.sink.Sink.{Sink}
+use Rattle.streams.specs.declared.sink.Target.{Target}
+use Rattle.streams.specs.declared.sink.Target.TheVariants.{Write, Compare}
 use Rattle.text.proofs.PlaceLaws.{put_none}
 use Rattle.text.specs.Place.{put, Put}
 
@@ -49,7 +53,8 @@ no_line (Long left) h = tt
 no_line Error h = tt
 no_line (At from to left) h = h from to left refl
 
-pub for_sink : {buf : List ℕ} {s t : Sink} {r : Ran} {buf' : List ℕ} → s ≡ t → RunTo buf s r buf' → RunTo buf t r buf'
+pub for_sink : {W R : Type 0} {holds : W → Option (List ℕ)} {target target' : Target W R} {buf : List ℕ} {s t : Sink} {r : Ran} {buf' : List ℕ}
+    → s ≡ t → RunTo holds target buf s r buf' target' → RunTo holds target buf t r buf' target'
 for_sink e p = rw (← e) p
 
 -- ---- what is gathered and what was handed over
@@ -71,19 +76,45 @@ take_put text out at h =
     ap (take (at + length text)) (sets-eq text out at h)
     ∙ take_at (take at out ++ text) (drop (at + length text) out) (at + length text) l
 
+-- ---- and what was written
+
+appends_none : (o : Option (List ℕ)) → Appends o o []
+appends_none None = tt
+appends_none (Some xs) = sym (append-nil xs)
+
+appends_on : (o p q : Option (List ℕ)) (a b : List ℕ) → Appends o p a → Appends p q b → Appends o q (a ++ b)
+appends_on None p q a b g h = tt
+appends_on (Some xs) None q a b g h = absurd g
+appends_on (Some xs) (Some ys) None a b g h = absurd h
+appends_on (Some xs) (Some ys) (Some zs) a b g h = h ∙ ap (λ (l : List ℕ). l ++ b) g ∙ append_assoc xs a b
+
+module _ {W R : Type 0} (holds : W → Option (List ℕ)) where
+  wrote_none : (t : Target W R) → Wrote holds t t []
+  wrote_none (Write w) = appends_none (holds w)
+  wrote_none (Compare r) = tt
+
+  wrote_on : (t u v : Target W R) (a b : List ℕ) → Wrote holds t u a → Wrote holds u v b → Wrote holds t v (a ++ b)
+  wrote_on (Compare r) u v a b g h = tt
+  wrote_on (Write x) (Compare r) v a b g h = absurd g
+  wrote_on (Write x) (Write y) (Compare r) a b g h = absurd h
+  wrote_on (Write x) (Write y) (Write z) a b g h = appends_on (holds x) (holds y) (holds z) a b g h
+
 -- what a line prints
 abbrev pub said : Progress → List ℕ → List ℕ
 said run line = (step_of run.want run.card line).text
 
 -- the text so far: a part was handed over, and the rest is gathered
-pub record Kept (sink₀ : Sink) (text : List ℕ) (run : Progress) (out : List ℕ) : Type 0 where
+pub record Kept {W R : Type 0} (holds : W → Option (List ℕ)) (target₀ : Target W R) (sink₀ : Sink) (text : List ℕ) (run : Progress) (out : List ℕ)
+    (target : Target W R) : Type 0 where
   pub over : List ℕ
+  pub wrote : Wrote holds target₀ target over
   pub split : text ≡ over ++ take run.at out
   pub sink : (n : ℕ) → hand_over n run.sink ≡ hand_over (length over + n) sink₀
   pub room : Room run.at out
 
-module _ {sink₀ : Sink} {text : List ℕ} {run : Progress} {line out : List ℕ} {r : Progress} {out' : List ℕ} (k : Kept sink₀ text run out)
-    (t : Turned run line out r out') where
+module _ {W R : Type 0} {holds : W → Option (List ℕ)} {target₀ target target' : Target W R} {sink₀ : Sink} {text : List ℕ} {run : Progress}
+    {line out : List ℕ} {r : Progress} {out' : List ℕ} (k : Kept holds target₀ sink₀ text run out target) (t : Turned run line out r out')
+    (q : Handed holds target (turned_at run line) out' r.ok target') (o : r.ok ≡ true) where
   gathers : take t.to out' ≡ take run.at out ++ said run line
   gathers =
       let p = t.put in
@@ -95,13 +126,15 @@ module _ {sink₀ : Sink} {text : List ℕ} {run : Progress} {line out : List �
       ap (λ (l : List ℕ). l ++ said run line) k.split ∙ append_assoc k.over (take run.at out) (said run line) ∙ ap (λ (l : List ℕ). k.over ++ l) (sym gathers)
 
   kept_by : (b : Bool) → ltb t.to gathered ≡ b → r.at ≡ cond b t.to 0 → r.sink ≡ cond b run.sink (hand_over t.to run.sink)
-      → Kept sink₀ (text ++ said run line) r out'
+      → Kept holds target₀ sink₀ (text ++ said run line) r out' target'
   kept_by true e a s =
       let h = ltb-true t.to gathered e in
       let m = t.put.same in
       let room = k.room.1 in
+      let place = t.put.place in
       record {
         over = k.over;
+        wrote = rw (q.kept (omega arith)) k.wrote;
         split = so_far ∙ ap (λ (n : ℕ). k.over ++ take n out') (sym a);
         sink = λ n. ap (hand_over n) s ∙ k.sink n;
         room = (omega arith, omega arith);
@@ -112,8 +145,12 @@ module _ {sink₀ : Sink} {text : List ℕ} {run : Progress} {line out : List �
       let room = k.room.1 in
       let l : length (k.over ++ take t.to out') ≡ length k.over + t.to =
       length-append k.over (take t.to out') ∙ ap (λ (n : ℕ). length k.over + n) (length-take-le t.to out' (omega arith)) in
+      let place = t.put.place in
+      let h = ltb-false t.to gathered e in
       record {
         over = k.over ++ take t.to out';
+        wrote = wrote_on holds target₀ target target' k.over (take t.to out') k.wrote
+            (rw place (q.wrote (omega arith) o));
         split = so_far ∙ sym (append-nil (k.over ++ take t.to out')) ∙ ap (λ (n : ℕ). (k.over ++ take t.to out') ++ take n out') (sym a);
         sink = λ n.
             let i : length k.over + (t.to + n) ≡ length (k.over ++ take t.to out') + n = omega arith in
@@ -121,15 +158,15 @@ module _ {sink₀ : Sink} {text : List ℕ} {run : Progress} {line out : List �
         room = (omega arith, omega arith);
       }
 
-  pub kept_on : r.ok ≡ true → Kept sink₀ (text ++ said run line) r out'
-  kept_on o =
+  pub kept_on : Kept holds target₀ sink₀ (text ++ said run line) r out' target'
+  kept_on =
       kept_by (ltb t.to gathered) refl t.place
       (t.sink ∙ ap (λ (b : Bool). cond (ltb t.to gathered) run.sink (counted_by b t.to run.sink)) o)
 
 -- at the end all of it was handed over
-all_handed : {sink₀ : Sink} {text : List ℕ} {run : Progress} {out : List ℕ} {end : Ended} {r : Ran} {out' : List ℕ} → Kept sink₀ text run out
-    → Finished run end out r out' → (r.ended ≡ NotWritten → ⊥) → r.sink ≡ hand_over (length (text ++ end_text end run.card)) sink₀
-all_handed {sink₀} {text} {run} {out} {end} k f z =
+all_handed : {W R : Type 0} {holds : W → Option (List ℕ)} {target₀ target : Target W R} {sink₀ : Sink} {text : List ℕ} {run : Progress} {out : List ℕ}
+    {end : Ended} {r : Ran} {out' : List ℕ} → Kept holds target₀ sink₀ text run out target → Finished run end out r out' → (r.ended ≡ NotWritten → ⊥) → r.sink ≡ hand_over (length (text ++ end_text end run.card)) sink₀
+all_handed {sink₀ = sink₀} {text = text} {run = run} {out = out} {end = end} k f z =
     let e = end_text end run.card in
     let room = k.room in
     let a : length text ≡ length k.over + run.at =
@@ -137,6 +174,19 @@ all_handed {sink₀} {text} {run} {out} {end} k f z =
     let b = length-append text e in
     let i : length k.over + (run.at + length e) ≡ length (text ++ e) = omega arith in
     f.is.sink z ∙ ap (λ (n : ℕ). hand_over n run.sink) f.put.place ∙ k.sink (run.at + length e) ∙ ap (λ (j : ℕ). hand_over j sink₀) i
+
+-- and written
+all_wrote : {W R : Type 0} {holds : W → Option (List ℕ)} {target₀ target : Target W R} {sink₀ : Sink} {text : List ℕ} {run : Progress}
+    {out : List ℕ} {end : Ended} {r : Ran} {out' : List ℕ} (target' : Target W R) → Kept holds target₀ sink₀ text run out target → Finished run end out r out'
+    → Gone holds target (ended_at run end) out' r target' → (r.ended ≡ NotWritten → ⊥) → Wrote holds target₀ target' (text ++ end_text end run.card)
+all_wrote {holds = holds} {target₀ = target₀} {target = target} {text = text} {run = run} {out = out} {end = end} {out' = out'} target' k f g z =
+    let e = end_text end run.card in
+    let p = f.put in
+    let h : run.at + length e ≤ length out = let a = p.within in let b = p.place in omega arith in
+    let last : take (run.at + length e) out' ≡ take run.at out ++ e = ap (λ (l : List ℕ). take (run.at + length e) l) p.is ∙ take_put e out run.at h in
+    let all : text ++ e ≡ k.over ++ take (run.at + length e) out' =
+    ap (λ (l : List ℕ). l ++ e) k.split ∙ append_assoc k.over (take run.at out) e ∙ ap (λ (l : List ℕ). k.over ++ l) (sym last) in
+    rw all (wrote_on holds target₀ target target' k.over (take (run.at + length e) out') k.wrote (g z))
 
 -- ---- the loop
 
@@ -194,49 +244,55 @@ long_line left n w x line (first ∷ lines) h =
     ap (λ (rest : List ℕ). (step_of w x first).text ++ cond (failed (step_of w x first).want) (bad_line n) rest)
     (long_line left (wrapped (n + 1)) (step_of w x first).want (step_of w x first).card line lines h)
 
-pub record Under (buf₀ : List ℕ) (sink₀ : Sink) (buf : List ℕ) (r : Reader) (run : Progress) (out : List ℕ) : Type 0 where
+pub record Under {W R : Type 0} (holds : W → Option (List ℕ)) (target₀ : Target W R) (buf₀ : List ℕ) (sink₀ : Sink) (buf : List ℕ) (r : Reader)
+    (run : Progress) (out : List ℕ) (target : Target W R) : Type 0 where
   pub lines : List (List ℕ)
   pub text : List ℕ
   pub came : Came buf₀ lines buf r
   pub same : length buf ≡ length buf₀
   pub fits : Fits buf r
-  pub kept : Kept sink₀ text run out
+  pub kept : Kept holds target₀ sink₀ text run out target
   pub alive : 0 < rank run.want
   pub output : (l : Line) (more : List (List ℕ)) → output_after l (lines ++ more) ≡ text ++ output_from l run.number run.want run.card more
   pub ending : (l : Line) (more : List (List ℕ)) → ending_after l (lines ++ more) ≡ ending_from l run.number run.want run.card more
 
-starts : (buf : List ℕ) (sink : Sink) (out : List ℕ) → 4096 < length buf → 65536 ≤ length out → Under buf sink buf (reader 0 0) (begun_run sink) out
-starts buf sink out h k = record {
+starts : {W R : Type 0} (holds : W → Option (List ℕ)) (target : Target W R) (buf : List ℕ) (sink : Sink) (out : List ℕ) → 4096 < length buf
+    → 65536 ≤ length out → Under holds target buf sink buf (reader 0 0) (begun_run sink) out target
+starts holds target buf sink out h k = record {
   lines = [];
   text = [];
   came = none;
   same = refl;
   fits = (omega arith, omega arith, h);
-  kept = record { over = []; split = refl; sink = λ n. let i : n ≡ 0 + n = omega arith in ap (λ (j : ℕ). hand_over j sink) i; room = (omega arith, k) };
+  kept = record { over = []; wrote = wrote_none holds target; split = refl; sink = λ n. let i : n ≡ 0 + n = omega arith in ap (λ (j : ℕ). hand_over j sink) i; room = (omega arith, k) };
   alive = omega arith;
   output = λ l more. refl;
   ending = λ l more. refl;
 }
 
-pub starts_at : {buf : List ℕ} {sink : Sink} {run : Progress} {out : List ℕ} → run ≡ begun_run sink → 4096 < length buf → 65536 ≤ length out
-    → Under buf run.sink buf (reader 0 0) run out
-starts_at {buf} {sink} {run} {out} e h k = subst (λ (p : Progress). Under buf p.sink buf (reader 0 0) p out) (sym e) (starts buf sink out h k)
+pub starts_at : {W R : Type 0} {holds : W → Option (List ℕ)} {target : Target W R} {buf : List ℕ} {sink : Sink} {run : Progress} {out : List ℕ}
+    → run ≡ begun_run sink → 4096 < length buf → 65536 ≤ length out → Under holds target buf run.sink buf (reader 0 0) run out target
+starts_at {holds = holds} {target = target} {buf = buf} {sink = sink} {out = out} e h k =
+    subst (λ (p : Progress). Under holds target buf p.sink buf (reader 0 0) p out target) (sym e) (starts holds target buf sink out h k)
 
-module _ {buf₀ : List ℕ} {sink₀ : Sink} {buf : List ℕ} {r : Reader} {run : Progress} {out : List ℕ} (u : Under buf₀ sink₀ buf r run out) where
+module _ {W R : Type 0} {holds : W → Option (List ℕ)} {target₀ target : Target W R} {buf₀ : List ℕ} {sink₀ : Sink} {buf : List ℕ} {r : Reader}
+    {run : Progress} {out : List ℕ} (u : Under holds target₀ buf₀ sink₀ buf r run out target) where
   -- no line is left, or it is too long or was not read
-  pub over_by : {l : Line} {buf' : List ℕ} {end : Ended} {out' : List ℕ} {ran : Ran} → Next buf r l buf' → NoLine l → end ≡ end_of l run.want run.number
-      → Finished run end out ran out' → RunTo buf₀ sink₀ ran buf'
-  over_by {l} n y e f =
+  pub over_by : {l : Line} {buf' : List ℕ} {end : Ended} {out' : List ℕ} {ran : Ran} (target' : Target W R) → Next buf r l buf' → NoLine l
+      → end ≡ end_of l run.want run.number → Finished run end out ran out' → Gone holds target (ended_at run end) out' ran target'
+      → RunTo holds target₀ buf₀ sink₀ ran buf' target'
+  over_by {l = l} {end = end} target' n y e f g =
       let q = append-nil u.lines in
+      let o = u.output l [] ∙ ap (λ (s : List ℕ). u.text ++ s) (no_more l run.number run.want run.card) in
+      let all = ap (λ (d : Ended). u.text ++ end_text d run.card) e ∙ sym o ∙ ap (output_after l) q in
       record {
         lines = u.lines;
         last = l;
         over = stops u.came n y;
         same = n.same ∙ u.same;
         ended = λ z. f.is.ended z ∙ e ∙ sym (ends_so l run.number run.want run.card) ∙ sym (u.ending l []) ∙ ap (ending_after l) q;
-        handed = λ z.
-            let o = u.output l [] ∙ ap (λ (s : List ℕ). u.text ++ s) (no_more l run.number run.want run.card) in
-            all_handed u.kept f z ∙ ap (λ (s : List ℕ). hand_over (length s) sink₀) (ap (λ (d : Ended). u.text ++ end_text d run.card) e ∙ sym o ∙ ap (output_after l) q);
+        handed = λ z. all_handed u.kept f z ∙ ap (λ (s : List ℕ). hand_over (length s) sink₀) all;
+        wrote = λ z. rw (← all) (all_wrote target' u.kept f g z);
       }
 
   module _ (from to : ℕ) (left : Reader) {l : Line} {buf' : List ℕ} (n : Next buf r l buf') (e : l ≡ At from to left) where
@@ -247,7 +303,8 @@ module _ {buf₀ : List ℕ} {sink₀ : Sink} {buf : List ℕ} {r : Reader} {run
     pub line_held : Held buf' from to left
     line_held = held from to left (n.line u.fits) u.fits e
 
-    module _ {next : Progress} {out' : List ℕ} (t : Turned run (bytes buf' from to) out next out') where
+    module _ {next : Progress} {out' : List ℕ} {target' : Target W R} (t : Turned run (bytes buf' from to) out next out')
+        (w : Handed holds target (turned_at run (bytes buf' from to)) out' next.ok target') where
       abbrev line : List ℕ
       line = bytes buf' from to
 
@@ -257,31 +314,33 @@ module _ {buf₀ : List ℕ} {sink₀ : Sink} {buf : List ℕ} {r : Reader} {run
       came' : Came buf₀ lines' buf' left
       came' = another u.came it
 
-      pub not_written : {ran : Ran} → ran.ended ≡ NotWritten → RunTo buf₀ sink₀ ran buf'
-      not_written w = record {
+      pub not_written : {ran : Ran} → ran.ended ≡ NotWritten → RunTo holds target₀ buf₀ sink₀ ran buf' target'
+      not_written y = record {
         lines = lines';
         last = At from to left;
         over = enough came';
         same = n.same ∙ u.same;
-        ended = λ z. absurd (z w);
-        handed = λ z. absurd (z w);
+        ended = λ z. absurd (z y);
+        handed = λ z. absurd (z y);
+        wrote = λ z. absurd (z y);
       }
 
-      pub bad_line_lem : {out'' : List ℕ} {ran : Ran} → next.ok ≡ true → failed next.want ≡ true → Finished next (BadLine run.number) out' ran out''
-          → RunTo buf₀ sink₀ ran buf'
-      bad_line_lem o b f =
+      pub bad_line_lem : {out'' : List ℕ} {ran : Ran} (target'' : Target W R) → next.ok ≡ true → failed next.want ≡ true
+          → Finished next (BadLine run.number) out' ran out'' → Gone holds target' (ended_at next (BadLine run.number)) out'' ran target''
+          → RunTo holds target₀ buf₀ sink₀ ran buf' target''
+      bad_line_lem target'' o b f g =
           let l = At from to left in
-          let w : failed (step_of run.want run.card line).want ≡ true = ap failed (sym t.want) ∙ b in
+          let y : failed (step_of run.want run.card line).want ≡ true = ap failed (sym t.want) ∙ b in
+          let prints = u.output l (line ∷ []) ∙ ap (λ (s : List ℕ). u.text ++ s) (one_bad l run.number run.want run.card line [] y)
+          ∙ sym (append_assoc u.text (said run line) (bad_line run.number)) in
           record {
             lines = lines';
             last = l;
             over = enough came';
             same = n.same ∙ u.same;
-            ended = λ z. f.is.ended z ∙ sym (ends_here l run.number run.want run.card line [] w) ∙ sym (u.ending l (line ∷ []));
-            handed = λ z.
-                let prints = u.output l (line ∷ []) ∙ ap (λ (s : List ℕ). u.text ++ s) (one_bad l run.number run.want run.card line [] w)
-                ∙ sym (append_assoc u.text (said run line) (bad_line run.number)) in
-                all_handed (kept_on u.kept t o) f z ∙ ap (λ (s : List ℕ). hand_over (length s) sink₀) (sym prints);
+            ended = λ z. f.is.ended z ∙ sym (ends_here l run.number run.want run.card line [] y) ∙ sym (u.ending l (line ∷ []));
+            handed = λ z. all_handed (kept_on u.kept t w o) f z ∙ ap (λ (s : List ℕ). hand_over (length s) sink₀) (sym prints);
+            wrote = λ z. rw prints (all_wrote target'' (kept_on u.kept t w o) f g z);
           }
 
       abbrev later : Line → List (List ℕ) → List ℕ
@@ -295,22 +354,22 @@ module _ {buf₀ : List ℕ} {sink₀ : Sink} {buf : List ℕ} {r : Reader} {run
           ≡ ending_from l next.number next.want next.card more
       ends_on l more = rw (t.number, t.want, t.card) refl
 
-      pub turned_on : next.ok ≡ true → failed next.want ≡ false → Under buf₀ sink₀ buf' left next out'
+      pub turned_on : next.ok ≡ true → failed next.want ≡ false → Under holds target₀ buf₀ sink₀ buf' left next out' target'
       turned_on o b =
-          let w : failed (step_of run.want run.card line).want ≡ false = ap failed (sym t.want) ∙ b in
+          let y : failed (step_of run.want run.card line).want ≡ false = ap failed (sym t.want) ∙ b in
           record {
             lines = lines';
             text = u.text ++ said run line;
             came = came';
             same = n.same ∙ u.same;
             fits = line_held.fits;
-            kept = kept_on u.kept t o;
+            kept = kept_on u.kept t w o;
             alive = goes_on next.want b;
             output = λ l more.
                 ap (output_after l) (append_assoc u.lines (line ∷ []) more) ∙ u.output l (line ∷ more)
-                ∙ ap (λ (s : List ℕ). u.text ++ s) (one_more l run.number run.want run.card line more w)
+                ∙ ap (λ (s : List ℕ). u.text ++ s) (one_more l run.number run.want run.card line more y)
                 ∙ sym (append_assoc u.text (said run line) (later l more)) ∙ ap (λ (s : List ℕ). (u.text ++ said run line) ++ s) (goes l more);
             ending = λ l more.
                 ap (ending_after l) (append_assoc u.lines (line ∷ []) more) ∙ u.ending l (line ∷ more)
-                ∙ ends_later l run.number run.want run.card line more w ∙ ends_on l more;
+                ∙ ends_later l run.number run.want run.card line more y ∙ ends_on l more;
           }

@@ -1,14 +1,15 @@
 -- A run of the event program: what is threaded from line to line, and what is handed over. No contract can say what the system's
--- readers give and its writers take: the lines are those of the bytes that reads brought, and the sink counts what it was handed. That these
--- are the system's bytes, and that they are handed on, is tested (crates/replay). Assumes nothing.
-use Rattle.std.specs.Prelude.{◌≡◌, ℕ, ◌+◌, ◌-◌, ◌<◌, ◌≤◌, true, cond, List, [], ◌∷◌, ◌++◌, length, take, drop, replicate, ◌≢◌, nat_lt}
+-- readers give and its writers take: the lines are those of the bytes that reads brought; the sink counts what it was handed, and a writer that
+-- says what it holds has it. That these are the system's bytes is tested (crates/replay). Assumes nothing.
+use Rattle.std.specs.Prelude.{◌≡◌, ℕ, ◌+◌, ◌-◌, ◌<◌, ◌≤◌, Bool, true, cond, Option, List, [], ◌∷◌, ◌++◌, length, take, drop, replicate, ◌≢◌, nat_lt}
 use Rattle.text.specs.Place.{put}
 use Rattle.streams.specs.Reading.{reader, Next}
-use Rattle.streams.specs.Writing.{wrapped, hand_over, counted_by}
+use Rattle.streams.specs.Writing.{wrapped, hand_over, counted_by, Wrote}
 use Rattle.streams.specs.declared.reader.Line.{Line}
 use Rattle.streams.specs.declared.reader.Line.TheVariants.{At, End, Long, Error}
 use Rattle.streams.specs.declared.reader.Reader.{Reader}
 use Rattle.streams.specs.declared.sink.Sink.{Sink}
+use Rattle.streams.specs.declared.sink.Target.{Target}
 use Rattle.script.specs.declared.reading.Want.TheVariants.{Mac}
 use Rattle.script.specs.CardRules.{new_card}
 use Rattle.script.specs.ReadingRules.{rank}
@@ -42,6 +43,12 @@ pub record FlushedTo (before : Sink) (at : ℕ) (r : Flush) : Type 0 where
   pub sink : r.sink ≡ cond (nat_lt at gathered) before (counted_by r.ok at before)
   pub well : at < gathered → r.ok ≡ true
 
+-- and the target: what was gathered up to `to` went there, if that went well, or nothing did
+pub record Handed {W R : Type 0} (holds : W → Option (List ℕ)) (before : Target W R) (to : ℕ) (out : List ℕ) (ok : Bool) (after : Target W R)
+    : Type 0 where
+  pub kept : to < gathered → after ≡ before
+  pub wrote : gathered ≤ to → ok ≡ true → Wrote holds before after (take to out)
+
 -- ---- a line
 
 abbrev pub begun_run : Sink → Progress
@@ -72,6 +79,17 @@ pub record Finished (run : Progress) (end : Ended) (out : List ℕ) (r : Ran) (o
   pub put : Whole (end_text end run.card) out run.at to out'
   pub is : Ends end to run.sink r
 
+-- and the target: the first n bytes went there
+abbrev pub Gone : {W R : Type 0} → (W → Option (List ℕ)) → Target W R → ℕ → List ℕ → Ran → Target W R → Type 0
+Gone holds before n out r after = (r.ended ≢ NotWritten) → Wrote holds before after (take n out)
+
+-- the place after a line's text, and after the end's
+abbrev pub turned_at : Progress → List ℕ → ℕ
+turned_at run line = run.at + length (step_of run.want run.card line).text
+
+abbrev pub ended_at : Progress → Ended → ℕ
+ended_at run end = run.at + length (end_text end run.card)
+
 -- ---- the run
 
 abbrev pub bytes : List ℕ → ℕ → ℕ → List ℕ
@@ -95,17 +113,19 @@ pub data Over (buf : List ℕ) : List (List ℕ) → Line → List ℕ → Type 
       → Over buf lines l buf''
   enough : {lines : List (List ℕ)} {from to : ℕ} {left : Reader} {buf' : List ℕ} → Came buf lines buf' left → Over buf lines (At from to left) buf'
 
--- What was handed over has the length of the output of the lines that came, unless a part of it was not written. Each turn hands over, or
--- gathers, the text of its line.
-pub record RunTo (buf : List ℕ) (sink : Sink) (r : Ran) (buf' : List ℕ) : Type 0 where
+-- What was handed over is the output of the lines that came, unless a part of it was not written: as many bytes as it has were counted, and a
+-- writer that says what it holds has all of it after what it had. Each turn hands over, or gathers, the text of its line.
+pub record RunTo {W R : Type 0} (holds : W → Option (List ℕ)) (target : Target W R) (buf : List ℕ) (sink : Sink) (r : Ran) (buf' : List ℕ)
+    (target' : Target W R) : Type 0 where
   pub lines : List (List ℕ)
   pub last : Line
   pub over : Over buf lines last buf'
   pub same : length buf' ≡ length buf
   pub ended : (r.ended ≢ NotWritten) → r.ended ≡ ending_after last lines
   pub handed : (r.ended ≢ NotWritten) → r.sink ≡ hand_over (length (output_after last lines)) sink
+  pub wrote : (r.ended ≢ NotWritten) → Wrote holds target target' (output_after last lines)
 
 -- the same, with a buffer of its own
-pub record RunOf (sink : Sink) (r : Ran) : Type 0 where
+pub record RunOf {W R : Type 0} (holds : W → Option (List ℕ)) (target : Target W R) (sink : Sink) (r : Ran) (target' : Target W R) : Type 0 where
   pub left : List ℕ
-  pub is : RunTo (replicate 69632 0) sink r left
+  pub is : RunTo holds target (replicate 69632 0) sink r left target'

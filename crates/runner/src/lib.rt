@@ -5,7 +5,7 @@
 ghost use Rattle.std.specs.Prelude.{◌≡◌, ◌<◌, ◌≤◌, length};
 ghost use Rattle.streams.specs.Writing.{is_written};
 ghost use Rattle.runner.specs.OutputRules.{failed, complete, end_of, end_text};
-ghost use Rattle.runner.specs.RunRules.{begun_run, Room, Whole, FlushedTo, Turned, Ends, Finished, RunTo, RunOf};
+ghost use Rattle.runner.specs.RunRules.{begun_run, Room, Whole, FlushedTo, Handed, Turned, Ends, Finished, Gone, turned_at, ended_at, RunTo, RunOf};
 
 use report::answer;
 use script::card::Card;
@@ -96,6 +96,7 @@ fn flushed<W: Write, R: Read>(sink: Sink, target: &mut Target<W, R>, out: &[u8],
     requires { at ≤ length out.now }
     ensures flushed { FlushedTo sink at result }
     ensures kind { is_written target.new ≡ is_written target.old }
+    ensures handed { Handed W.contents target.old at out.now result.ok target.new }
 {
     if at < GATHERED {
         return Flush { ok: true, at, sink };
@@ -134,6 +135,7 @@ fn turn<W: Write, R: Read>(
     requires { Room run.at out.old }
     ensures turned { Turned run line.now out.old result out.new }
     ensures kind { is_written target.new ≡ is_written target.old }
+    ensures handed { Handed W.contents target.old (turned_at run line.now) out.new result.ok target.new }
 {
     let card = run.card;
     let want = run.want;
@@ -197,6 +199,7 @@ fn last<W: Write, R: Read>(
     requires { at ≤ length out.now }
     ensures ends { Ends end at sink result }
     ensures kind { is_written target.new ≡ is_written target.old }
+    ensures gone { Gone W.contents target.old at out.now result target.new }
 {
     let handed = emit(sink, target, &out[..at]);
     let after = handed.sink;
@@ -227,6 +230,7 @@ fn finish<W: Write, R: Read>(
     requires { Room run.at out.old }
     ensures finished { Finished run end out.old result out.new }
     ensures kind { is_written target.new ≡ is_written target.old }
+    ensures gone { Gone W.contents target.old (ended_at run end) out.new result target.new }
 {
     let card = run.card;
     let sink = run.sink;
@@ -243,7 +247,7 @@ fn run_lines<I: Read, W: Write, R: Read>(
     out: &mut [u8],
 ) -> Ran
     requires { (4096 < length buf.old) × (65536 ≤ length out.old) }
-    ensures run { RunTo buf.old sink result buf.new }
+    ensures run { RunTo W.contents target.old buf.old sink result buf.new target.new }
     ensures kind { is_written target.new ≡ is_written target.old }
 {
     let mut run = begun(sink);
@@ -274,7 +278,7 @@ fn run_lines<I: Read, W: Write, R: Read>(
 
 // Runs the events of input, and answers how that ended.
 pub fn run<I: Read, W: Write, R: Read>(input: &mut I, target: &mut Target<W, R>, sink: Sink) -> Ran
-    ensures run { RunOf sink result }
+    ensures run { RunOf W.contents target.old sink result target.new }
     ensures kind { is_written target.new ≡ is_written target.old }
 {
     let mut buf = [0u8; INPUT];

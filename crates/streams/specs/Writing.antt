@@ -1,5 +1,7 @@
--- Where output goes. No contract can say what a writer takes: what is said here is how much was handed over and went well. Assumes nothing.
-use Rattle.std.specs.Prelude.{◌≡◌, ℕ, ◌+◌, ◌%◌, ◌^◌, Bool, true, false, cond}
+-- Where output goes. No contract can say what the system's writers take: what is said here is how much was handed over and went well, and that a
+-- writer that says what it holds has it. Assumes nothing.
+use Rattle.std.specs.Prelude.{◌≡◌, ℕ, ◌+◌, ◌%◌, ◌^◌, Bool, true, false, cond, List, Option}
+use Rattle.std.specs.Io.KnownBytes.{Appends}
 use Rattle.streams.specs.declared.sink.Sink.{Sink}
 use Rattle.streams.specs.declared.sink.Target.{Target}
 use Rattle.streams.specs.declared.sink.Target.TheVariants.{Write, Compare}
@@ -31,3 +33,9 @@ Done (Compare r) b = Unit {0}
 abbrev pub is_written : {W R : Type 0} → Target W R → Bool
 is_written (Write w) = true
 is_written (Compare r) = false
+
+-- what a writer holds, where that is known, grew by these bytes; what is compared is written to nowhere
+abbrev pub Wrote : {W R : Type 0} → (W → Option (List ℕ)) → Target W R → Target W R → List ℕ → Type 0
+Wrote holds (Write w) (Write w') bytes = Appends (holds w) (holds w') bytes
+Wrote holds (Write w) (Compare r) bytes = ⊥
+Wrote holds (Compare r) t bytes = Unit {0}

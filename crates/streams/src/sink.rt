@@ -1,6 +1,6 @@
 // Where output goes, and how much of it went there.
-ghost use Rattle.std.specs.Prelude.{◌≡◌, ◌<◌, ◌≤◌, length};
-ghost use Rattle.streams.specs.Writing.{fresh, counted_by, is_written, Done};
+ghost use Rattle.std.specs.Prelude.{◌≡◌, ◌<◌, ◌≤◌, length, true};
+ghost use Rattle.streams.specs.Writing.{fresh, counted_by, is_written, Done, Wrote};
 
 use std::io::{Read, Write};
 use text::scan::is;
@@ -68,7 +68,8 @@ fn matches<R: Read>(held: &mut R, room: &mut [u8], bytes: &[u8]) -> bool
 
 // Writes all the bytes, or reads as many and compares.
 fn hand_over<W: Write, R: Read>(target: &mut Target<W, R>, bytes: &[u8]) -> bool
-    ensures { is_written target.new ≡ is_written target.old }
+    ensures kind { is_written target.new ≡ is_written target.old }
+    ensures written { result ≡ true → Wrote W.contents target.old target.new bytes.now }
 {
     match target {
         Target::Write(output) => output.write_all(bytes).is_ok(),
@@ -83,6 +84,7 @@ fn hand_over<W: Write, R: Read>(target: &mut Target<W, R>, bytes: &[u8]) -> bool
 pub fn emit<W: Write, R: Read>(sink: Sink, target: &mut Target<W, R>, bytes: &[u8]) -> Emitted
     ensures counted { result.sink ≡ counted_by result.ok (length bytes.now) sink }
     ensures kind { is_written target.new ≡ is_written target.old }
+    ensures written { result.ok ≡ true → Wrote W.contents target.old target.new bytes.now }
 {
     if hand_over(target, bytes) {
         let handed = sink.handed.wrapping_add(bytes.len() as u64);
@@ -103,6 +105,7 @@ fn at_end<R: Read>(held: &mut R) -> bool {
 pub fn done<W: Write, R: Read>(target: &mut Target<W, R>) -> bool
     ensures told { Done target.old result }
     ensures kind { is_written target.new ≡ is_written target.old }
+    ensures unchanged { is_written target.old ≡ true → target.new ≡ target.old }
 {
     match target {
         Target::Write(_) => true,
