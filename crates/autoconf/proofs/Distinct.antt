@@ -124,6 +124,6 @@ addresses_once =
       new = once_new;
       add_ip_addr = once_added;
       poll = λ s t r iface up hw buf k p buf'. once_poll s t r iface up hw buf k p buf';
-      turn_off_lem = λ s t r c q iface x. once_off s t r iface c q x;
+      turn_off = λ s t r c q iface x. once_off s t r iface c q x;
       sync = λ hw now t s. sync_slaac hw now t s;
     }

@@ -48,6 +48,6 @@ pub record AddressesOnce : Type 0 where
   pub add_ip_addr : (t : IfaceAddrs) (iface : ℕ) (c : Ipv6Cidr) (r : Added) → AddedTo t iface c r → AddrsOnce t → AddrsOnce r.addrs
   pub poll : (s : Slaac) (t : IfaceAddrs) (r : Routes) (iface : ℕ) (up : Bool) (hw : HardwareAddress) (buf : List ℕ) (k : Clock) (p : PolledAt)
       (buf' : List ℕ) → PolledTo s t r iface up hw buf k p buf' → AddrsOnce t → AddrsOnce p.polled.addrs
-  pub turn_off_lem : (s : Slaac) (t : IfaceAddrs) (r : Routes) (c : NeighborCache) (q : PendingQueue) (iface : ℕ) (x : TurnedOff)
+  pub turn_off : (s : Slaac) (t : IfaceAddrs) (r : Routes) (c : NeighborCache) (q : PendingQueue) (iface : ℕ) (x : TurnedOff)
       → TurnedOffTo s t r c q iface x → AddrsOnce t → AddrsOnce x.addrs
   pub sync : (hw : HardwareAddress) (now : Instant) (t : IfaceAddrs) (s : Slaac) → AddrsOnce t → sync_addrs hw now t s ≡ slaac_addrs hw now t s

@@ -314,14 +314,14 @@ pub record Pinned : Type 0 where
       ≡ record { addr = router_no 1; valid_until = ms 258000 } ∷ record { addr = router_no 2; valid_until = ms 258000 } ∷ []
   -- "0: its entry gets now": and each of these asks for a sync
   pub router_asks : (advertised_by 1 (fresh true)).sync_required ≡ true
-  pub router_ends_lem : routers_of (retires end.slaac) ≡ record { addr = router; valid_until = ms 700 } ∷ []
+  pub router_ends : routers_of (retires end.slaac) ≡ record { addr = router; valid_until = ms 700 } ∷ []
   pub end_asks : (retires end.slaac).sync_required ≡ true
   pub nothing_asks : (retires (fresh true)).sync_required ≡ false
   pub router_asks_again : (hears end.slaac header 700).slaac.sync_required ≡ true
   pub third_asks_not : (advertised_by 3 full_of_routers).sync_required ≡ false
   -- "Valid = 0: a match gets both times set to now. A refresh, an append and a match with 0 each ask for a sync."
   pub prefix_asks : (hears (fresh true) (headed 134 0 0 0 0 ++ offers 1) 0).slaac.sync_required ≡ true
-  pub prefix_ends_lem : prefixes_of (hears end.slaac (headed 134 0 0 0 0 ++ prefix_bytes (offer network 0 0)) 700).slaac ≡ entry network 700 700 ∷ []
+  pub prefix_ends : prefixes_of (hears end.slaac (headed 134 0 0 0 0 ++ prefix_bytes (offer network 0 0)) 700).slaac ≡ entry network 700 700 ∷ []
   pub unknown_asks_not : (hears (fresh true) (headed 134 0 0 0 0 ++ prefix_bytes (offer network 0 0)) 0).slaac.sync_required ≡ false
   pub refresh_asks : asks_again (offers 1) ≡ true
   pub prefix_end_asks : asks_again (prefix_bytes (offer (net 1) 0 0)) ≡ true
@@ -378,7 +378,7 @@ pub record Pinned : Type 0 where
   pub heard_leaves : (hears (fresh true) header 0).slaac.discovery.num_solicitations ≡ 3
   pub heard_keeps : (hears up.slaac header 500).slaac.discovery.num_solicitations ≡ 2
   -- "If a type 1 option occurred, the last one counts; if unicast, it fills the neighbour (interface, source).": "for 60,000 ms"
-  pub last_source_lem : taught (link_layer_bytes 1 (record { hi = 0x0200; lo = 9 }) ++ link_layer_bytes 1 hardware) ≡ entry_of (neighbour 1) (Reachable hardware (ms 60000)) ∷ []
+  pub last_source : taught (link_layer_bytes 1 (record { hi = 0x0200; lo = 9 }) ++ link_layer_bytes 1 hardware) ≡ entry_of (neighbour 1) (Reachable hardware (ms 60000)) ∷ []
   pub group_source : taught (link_layer_bytes 1 (record { hi = 0x0100; lo = 1 })) ≡ []
   pub group_last : taught (link_layer_bytes 1 mac ++ link_layer_bytes 1 group) ≡ []
   pub target_alone : taught (link_layer_bytes 2 mac) ≡ []

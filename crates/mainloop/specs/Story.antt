@@ -125,7 +125,7 @@ pub record Story : Type 0 where
   pub until_3000 : at2000.wake ≡ At (ms 3000)
   -- Still none: the resolution failed, the packet is handed back, and nothing is left to wake for.
   pub failed : event_list at3000.report.events ≡ Failed neighbour ∷ []
-  pub handed_back_lem : at3000.report.dropped ≡ handles_of (7 ∷ [])
+  pub handed_back : at3000.report.dropped ≡ handles_of (7 ∷ [])
   pub for_ever : at3000.wake ≡ None
   -- With an answer at 1,500 the packet goes there, none is handed back, and the card sleeps until the neighbour is known no longer.
   pub goes : at1500.report.action ≡ Send its_address

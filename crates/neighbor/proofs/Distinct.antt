@@ -89,5 +89,5 @@ keys_once =
       insert = λ c iface addr hw expires r p d. kept_once _ c _ r p d (distinct_put (key iface addr) (Reachable hw expires) (entries c) d);
       remove = λ c iface addr r p d.
           subst (λ (x : Removed). Once x.cache) (sym p.is) (removes (iface_check iface) c (key iface addr) d);
-      clear_iface_lem = λ c iface r p d. kept_once _ c _ r p d (distinct_clear iface (entries c) d);
+      clear_iface = λ c iface r p d. kept_once _ c _ r p d (distinct_clear iface (entries c) d);
     }

@@ -14,5 +14,5 @@ never_refused c c' iface addr =
       insert = λ hw expires r r' h h'. h.number ∙ sym h'.number;
       get = λ r r' h h'. h.number ∙ sym h'.number;
       remove = λ r r' h h'. h.number ∙ sym h'.number;
-      clear_iface_lem = λ r r' h h'. h.number ∙ sym h'.number;
+      clear_iface = λ r r' h h'. h.number ∙ sym h'.number;
     }

@@ -25,4 +25,4 @@ pub record KeysOnce : Type 0 where
   pub insert : (c : NeighborCache) (iface : ℕ) (addr : Ipv6Addr) (hw : HardwareAddress) (expires : Instant) (r : Changed)
       → InsertTo c iface addr hw expires r → Once c → Once r.cache
   pub remove : (c : NeighborCache) (iface : ℕ) (addr : Ipv6Addr) (r : Removed) → RemovedTo c iface addr r → Once c → Once r.cache
-  pub clear_iface_lem : (c : NeighborCache) (iface : ℕ) (r : Changed) → ClearTo c iface r → Once c → Once r.cache
+  pub clear_iface : (c : NeighborCache) (iface : ℕ) (r : Changed) → ClearTo c iface r → Once c → Once r.cache

@@ -22,4 +22,4 @@ pub record NeverRefused (c c' : NeighborCache) (iface : ℕ) (addr : Ipv6Addr) :
       → outcome_number r.outcome ≡ outcome_number r'.outcome
   pub get : (r r' : Got) → GotBy c iface addr r → GotBy c' iface addr r' → got_number_is r ≡ got_number_is r'
   pub remove : (r r' : Removed) → RemovedTo c iface addr r → RemovedTo c' iface addr r' → got_number_is r.taken ≡ got_number_is r'.taken
-  pub clear_iface_lem : (r r' : Changed) → ClearTo c iface r → ClearTo c' iface r' → outcome_number r.outcome ≡ outcome_number r'.outcome
+  pub clear_iface : (r r' : Changed) → ClearTo c iface r → ClearTo c' iface r' → outcome_number r.outcome ≡ outcome_number r'.outcome
