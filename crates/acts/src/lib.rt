@@ -1,566 +1,360 @@
-// Single calls that change something: what a line leaves of what is held. The clock is lent.
+// Single calls that change something. The clock is lent.
 #![tactic(auto)]
 
-use answers::{deadline_after, refused, yes_or_no};
-use autoconf::{AdvertAnswer, PollAnswer};
-use fields::{Args, deadline, read_call};
-use iface::route::{AddedRoute, IPV6_DEFAULT};
+use answers::Answers;
+use autoconf::PollAnswer;
+use fields::Fields;
+use iface::route::IPV6_DEFAULT;
 use ndisc::ndisc::SOLICIT_LEN;
-use neighbor::{Changed, Got};
-use pending::{Handles, Purged, Push, Release};
-use sweep::Events;
-use table::count_of;
-use text::print;
-use time::{Clock, Deadline, Instant};
-use wire::error::{Check, Outcome, check_iface};
-use wire::ipv6::Ipv6Cidr;
-use world::{After, LENT, UNWRITTEN, World};
+use neighbor::Changed;
+use pending::{Handles, Purged};
+use text::print::Text;
+use time::{Clock, Instant};
+use wire::error::{Refusal, check_iface};
+use wire::ethernet::HardwareAddress;
+use wire::ipv6::{Ipv6Addr, Ipv6Cidr};
+use world::{LENT, UNWRITTEN, World};
 
-// The calls, by their place in the list of patterns.
-const NEW: usize = 0;
-
-const CLOCK: usize = 1;
-
-const EXPIRED: usize = 2;
-
-const SCHEDULE: usize = 3;
-
-const START: usize = 4;
-
-const FILL: usize = 5;
-
-const INSERT: usize = 6;
-
-const CLEAR: usize = 7;
-
-const REMOVE: usize = 8;
-
-const PUSH: usize = 9;
-
-const RELEASE: usize = 10;
-
-const ADDRESS: usize = 11;
-
-const ROUTE: usize = 12;
-
-const ROUTETO: usize = 13;
-
-const LINK: usize = 14;
-
-const RESTART: usize = 15;
-
-const ON: usize = 16;
-
-const OFF: usize = 17;
-
-const ORPHANS: usize = 19;
-
-const PURGE: usize = 20;
-
-const SWEEP: usize = 21;
-
-const POLL: usize = 22;
-
-// What a call answered.
+// A call, with what its line says: an interface first, then a neighbour's or a router's address.
 #[derive(Clone, Copy)]
-enum Said {
-    Outcome(Outcome),
-    Got(Got),
-    Push(Push),
-    Release(Release),
-    Advert(AdvertAnswer),
-    // Whether a time has come, asked of the clock.
-    Asked(bool),
-    // The clock's deadline.
-    Scheduled,
-}
-
-#[derive(Clone, Copy)]
-struct Left {
-    world: World,
-    said: Said,
-}
-
-// What a poll leaves of the state, its answer, and the clock.
-#[derive(Clone, Copy)]
-struct PolledWorld {
-    world: World,
-    answer: PollAnswer,
-    clock: Clock,
-}
-
-fn done(world: World, outcome: Outcome) -> Left {
-    Left {
-        world,
-        said: Said::Outcome(outcome),
-    }
+enum Call<'a> {
+    New(HardwareAddress, u64),
+    Clock(Clock),
+    Expired(Instant),
+    Schedule(Instant),
+    Start(u8, Ipv6Addr),
+    Fill(u8, Ipv6Addr, HardwareAddress, Instant),
+    Insert(u8, Ipv6Addr, HardwareAddress, Instant),
+    Clear(u8),
+    Remove(u8, Ipv6Addr),
+    Push(u8, Ipv6Addr, u32),
+    Release(u8, Ipv6Addr),
+    Address(u8, Ipv6Cidr),
+    Route(u8, Ipv6Cidr, Ipv6Addr),
+    Link(u8, bool),
+    Restart(u8),
+    On(u8),
+    Off(u8),
+    Ra(u8, Ipv6Addr, Instant, &'a [u8]),
+    Orphans,
+    Purge(u8),
+    Sweep(u8, Clock),
+    // of the buffer as much is lent as the line says and there is
+    Poll(u8, Clock, usize),
 }
 
 // A clock of a time and a deadline.
-fn clock_of(args: Args) -> Clock {
-    let end = deadline(args);
-    Clock {
-        now: Instant(args.time),
-        deadline: end,
-    }
+fn read_clock(fields: &mut Fields) -> Option<Clock> {
+    Some(Clock {
+        now: fields.instant()?,
+        deadline: fields.deadline()?,
+    })
 }
 
-fn clock(world: World, args: Args) -> Left {
-    let held = clock_of(args);
-    let mut after = world;
-    after.clock = held;
-    done(after, Outcome::Done)
+fn read_cidr(fields: &mut Fields) -> Option<Ipv6Cidr> {
+    Some(Ipv6Cidr {
+        address: fields.address()?,
+        prefix_len: fields.any_len()?,
+    })
 }
 
-fn expired(world: World, args: Args) -> Left {
-    let held = world.clock;
-    let asked = lending::expired(held, Instant(args.time));
-    let left = asked.clock;
-    let mut after = world;
-    after.clock = left;
-    Left {
-        world: after,
-        said: Said::Asked(asked.yes),
-    }
+fn read_ra<'a>(fields: &mut Fields, room: &'a mut [u8]) -> Option<Call<'a>> {
+    let iface = fields.byte()?;
+    let source = fields.address()?;
+    let now = fields.instant()?;
+    Some(Call::Ra(iface, source, now, fields.bytes(room)?))
 }
 
-fn schedule(world: World, args: Args) -> Left {
-    let held = world.clock;
-    let left = lending::schedule(held, Instant(args.time));
-    let mut after = world;
-    after.clock = left;
-    Left {
-        world: after,
-        said: Said::Scheduled,
-    }
+// A call on a table, by its word.
+fn read_table_call<'a>(word: &[u8], fields: &mut Fields) -> Option<Call<'a>> {
+    let iface = fields.byte()?;
+    let call = match word {
+        b"start" => Call::Start(iface, fields.address()?),
+        b"fill" => Call::Fill(
+            iface,
+            fields.address()?,
+            fields.hardware()?,
+            fields.instant()?,
+        ),
+        b"insert" => Call::Insert(
+            iface,
+            fields.address()?,
+            fields.hardware()?,
+            fields.instant()?,
+        ),
+        b"clear" => Call::Clear(iface),
+        b"remove" => Call::Remove(iface, fields.address()?),
+        b"push" => Call::Push(iface, fields.address()?, fields.word()?),
+        b"release" => Call::Release(iface, fields.address()?),
+        b"address" => Call::Address(iface, read_cidr(fields)?),
+        b"route" => Call::Route(iface, IPV6_DEFAULT, fields.address()?),
+        b"routeto" => Call::Route(iface, read_cidr(fields)?, fields.address()?),
+        _ => return None,
+    };
+    Some(call)
 }
 
-fn change(world: World, args: Args) -> Changed {
-    let cache = world.cache;
-    let addr = args.addr;
-    let hardware_addr = args.hardware_addr;
-    let code = args.code;
-    match code {
-        START => cache.start_resolution(args.iface, addr),
-        FILL => cache.fill(args.iface, addr, hardware_addr, Instant(args.time)),
-        INSERT => cache.insert(args.iface, addr, hardware_addr, Instant(args.time)),
-        _ => cache.clear_iface(args.iface),
-    }
+// A call by its word.
+fn read_fields<'a>(fields: &mut Fields, room: &'a mut [u8]) -> Option<Call<'a>> {
+    let call = match fields.field()? {
+        b"new" => Call::New(fields.hardware()?, fields.number()?),
+        b"clock" => Call::Clock(read_clock(fields)?),
+        b"expired" => Call::Expired(fields.instant()?),
+        b"schedule" => Call::Schedule(fields.instant()?),
+        b"link" => Call::Link(fields.byte()?, fields.up()?),
+        b"restart" => Call::Restart(fields.byte()?),
+        b"on" => Call::On(fields.byte()?),
+        b"off" => Call::Off(fields.byte()?),
+        b"ra" => read_ra(fields, room)?,
+        b"orphans" => Call::Orphans,
+        b"purge" => Call::Purge(fields.byte()?),
+        b"sweep" => Call::Sweep(fields.byte()?, read_clock(fields)?),
+        b"poll" => Call::Poll(
+            fields.byte()?,
+            read_clock(fields)?,
+            fields.number()? as usize,
+        ),
+        word => read_table_call(word, fields)?,
+    };
+    Some(call)
+}
+
+fn expired(world: &mut World, at: Instant, out: &mut Text) {
+    let asked = lending::expired(world.clock, at);
+    world.clock = asked.clock;
+    out.yes_or_no(asked.yes);
+    out.deadline_after(b" deadline ", asked.clock.deadline);
+}
+
+fn schedule(world: &mut World, at: Instant, out: &mut Text) {
+    world.clock = lending::schedule(world.clock, at);
+    out.deadline_after(b"deadline ", world.clock.deadline);
 }
 
 // Start, fill, insert and clear.
-fn changed(world: World, args: Args) -> Left {
-    let left = change(world, args);
-    let outcome = left.outcome;
-    let cache = left.cache;
-    let mut after = world;
-    after.cache = cache;
-    done(after, outcome)
+fn changed(world: &mut World, left: Changed, out: &mut Text) {
+    world.cache = left.cache;
+    out.outcome(left.outcome);
 }
 
-fn remove(world: World, args: Args) -> Left {
-    let addr = args.addr;
-    let cache = world.cache;
-    let left = cache.remove(args.iface, addr);
-    let taken = left.taken;
-    let cache_after = left.cache;
-    let mut after = world;
-    after.cache = cache_after;
-    Left {
-        world: after,
-        said: Said::Got(taken),
-    }
+fn remove(world: &mut World, iface: u8, addr: Ipv6Addr, out: &mut Text) {
+    let left = world.cache.remove(iface, addr);
+    world.cache = left.cache;
+    out.got(left.taken);
 }
 
-fn push(world: World, args: Args) -> Left {
-    let addr = args.addr;
-    let queue = world.queue;
-    let left = queue.push(args.iface, addr, args.handle);
-    let answer = left.answer;
-    let queue_after = left.queue;
-    let mut after = world;
-    after.queue = queue_after;
-    Left {
-        world: after,
-        said: Said::Push(answer),
-    }
+fn push(world: &mut World, iface: u8, addr: Ipv6Addr, handle: u32, out: &mut Text) {
+    let left = world.queue.push(iface, addr, handle);
+    world.queue = left.queue;
+    out.push(left.answer);
 }
 
-fn release(world: World, args: Args) -> Left {
-    let addr = args.addr;
-    let queue = world.queue;
-    let left = queue.release(args.iface, addr);
-    let answer = left.answer;
-    let queue_after = left.queue;
-    let mut after = world;
-    after.queue = queue_after;
-    Left {
-        world: after,
-        said: Said::Release(answer),
-    }
+fn release(world: &mut World, iface: u8, addr: Ipv6Addr, out: &mut Text) {
+    let left = world.queue.release(iface, addr);
+    world.queue = left.queue;
+    out.release(left.answer);
 }
 
-fn cidr_of(args: Args) -> Ipv6Cidr {
-    let addr = args.addr;
-    Ipv6Cidr {
-        address: addr,
-        prefix_len: args.prefix_len,
-    }
+fn address(world: &mut World, iface: u8, cidr: Ipv6Cidr, out: &mut Text) {
+    let part = world.iface_mut(iface);
+    let left = part.addrs.add_ip_addr(iface, cidr);
+    part.addrs = left.addrs;
+    out.outcome(left.outcome);
 }
 
-fn address(world: World, args: Args) -> Left {
-    let mut iface = world.iface(args.iface);
-    let addrs = iface.addrs;
-    let left = addrs.add_ip_addr(args.iface, cidr_of(args));
-    let outcome = left.outcome;
-    let addrs_after = left.addrs;
-    iface.addrs = addrs_after;
-    done(world.with_iface(args.iface, iface), outcome)
+fn route(world: &mut World, iface: u8, cidr: Ipv6Cidr, via: Ipv6Addr, out: &mut Text) {
+    let left = world.routes.add_route(iface, cidr, via);
+    world.routes = left.routes;
+    out.outcome(left.outcome);
 }
 
-fn added(world: World, left: AddedRoute) -> Left {
-    let outcome = left.outcome;
-    let routes = left.routes;
-    let mut after = world;
-    after.routes = routes;
-    done(after, outcome)
-}
-
-// The application's default route, by the address that the line names.
-fn route(world: World, args: Args) -> Left {
-    let via = args.addr;
-    let routes = world.routes;
-    added(world, routes.add_route(args.iface, IPV6_DEFAULT, via))
-}
-
-// Its route to any destination.
-fn routeto(world: World, args: Args) -> Left {
-    let via = args.other;
-    let routes = world.routes;
-    added(world, routes.add_route(args.iface, cidr_of(args), via))
-}
-
-fn link(world: World, args: Args) -> Left {
-    match check_iface(args.iface) {
-        Check::Refused(why) => done(world, Outcome::Refused(why)),
-        Check::Fine => {
-            let mut iface = world.iface(args.iface);
-            iface.up = args.up;
-            done(world.with_iface(args.iface, iface), Outcome::Done)
+fn link(world: &mut World, iface: u8, up: bool, out: &mut Text) {
+    match check_iface(iface) {
+        Err(why) => out.refused(why),
+        Ok(()) => {
+            world.iface_mut(iface).up = up;
+            out.outcome(Ok(()));
         }
     }
 }
 
-fn restart(world: World, args: Args) -> Left {
-    let mut iface = world.iface(args.iface);
-    let slaac = iface.slaac;
-    let left = slaac.restart(args.iface);
-    let outcome = left.outcome;
-    let slaac_after = left.slaac;
-    iface.slaac = slaac_after;
-    done(world.with_iface(args.iface, iface), outcome)
+fn restart(world: &mut World, iface: u8, out: &mut Text) {
+    let part = world.iface_mut(iface);
+    let left = part.slaac.restart(iface);
+    part.slaac = left.slaac;
+    out.outcome(left.outcome);
 }
 
-fn on(world: World, args: Args) -> Left {
-    let mut iface = world.iface(args.iface);
-    let slaac = iface.slaac;
-    let left = slaac.turn_on(args.iface);
-    let outcome = left.outcome;
-    let slaac_after = left.slaac;
-    iface.slaac = slaac_after;
-    done(world.with_iface(args.iface, iface), outcome)
+fn on(world: &mut World, iface: u8, out: &mut Text) {
+    let part = world.iface_mut(iface);
+    let left = part.slaac.turn_on(iface);
+    part.slaac = left.slaac;
+    out.outcome(left.outcome);
 }
 
-fn ra(world: World, args: Args, message: &[u8]) -> Left {
-    let source = args.addr;
-    let mut iface = world.iface(args.iface);
-    let slaac = iface.slaac;
-    let cache = world.cache;
-    let left = autoconf::process_advertisement(
-        slaac,
-        cache,
-        args.iface,
-        source,
-        message,
-        Instant(args.time),
-    );
-    let answer = left.answer;
-    let slaac_after = left.slaac;
-    let cache_after = left.cache;
-    iface.slaac = slaac_after;
-    let mut after = world.with_iface(args.iface, iface);
-    after.cache = cache_after;
-    Left {
-        world: after,
-        said: Said::Advert(answer),
-    }
-}
-
-fn slaac_act(world: World, args: Args, message: &[u8]) -> Left {
-    let code = args.code;
-    match code {
-        LINK => link(world, args),
-        RESTART => restart(world, args),
-        ON => on(world, args),
-        _ => ra(world, args, message),
-    }
-}
-
-fn table_act(world: World, args: Args, message: &[u8]) -> Left {
-    let code = args.code;
-    match code {
-        REMOVE => remove(world, args),
-        PUSH => push(world, args),
-        RELEASE => release(world, args),
-        ADDRESS => address(world, args),
-        ROUTE => route(world, args),
-        ROUTETO => routeto(world, args),
-        _ => slaac_act(world, args, message),
-    }
-}
-
-fn begin(args: Args) -> Left {
-    let hardware_addr = args.hardware_addr;
-    done(World::new(hardware_addr, args.time), Outcome::Done)
-}
-
-fn act(world: World, args: Args, message: &[u8]) -> Left {
-    let code = args.code;
-    match code {
-        NEW => begin(args),
-        CLOCK => clock(world, args),
-        EXPIRED => expired(world, args),
-        SCHEDULE => schedule(world, args),
-        START | FILL | INSERT | CLEAR => changed(world, args),
-        _ => table_act(world, args, message),
-    }
-}
-
-fn asked(out: &mut [u8], at: usize, yes: bool, end: Deadline) -> usize {
-    let after_answer = yes_or_no(out, at, yes);
-    deadline_after(out, after_answer, b" deadline ", end)
-}
-
-fn print_said(out: &mut [u8], at: usize, said: Said, clock: Clock) -> usize {
-    let end = clock.deadline;
-    match said {
-        Said::Outcome(outcome) => answers::outcome(out, at, outcome),
-        Said::Got(got) => answers::got(out, at, got),
-        Said::Push(push) => answers::push(out, at, push),
-        Said::Release(release) => answers::release(out, at, release),
-        Said::Advert(advert) => answers::advert(out, at, advert),
-        Said::Asked(yes) => asked(out, at, yes, end),
-        Said::Scheduled => deadline_after(out, at, b"deadline ", end),
-    }
-}
-
-fn acted(world: World, args: Args, message: &[u8], out: &mut [u8], at: usize) -> After {
-    let done = act(world, args, message);
-    let after = done.world;
-    let said = done.said;
-    let clock = after.clock;
-    After {
-        world: after,
-        at: print_said(out, at, said, clock),
-    }
-}
-
-fn purge(world: World, args: Args) -> Purged {
-    let queue = world.queue;
-    let cache = world.cache;
-    if args.code == ORPHANS {
-        return queue.purge_orphans(cache);
-    }
-    queue.purge_iface(args.iface)
-}
-
-fn handed_back(out: &mut [u8], at: usize, outcome: Outcome, dropped: Handles) -> usize {
+fn handed_back(outcome: Result<(), Refusal>, dropped: Handles, out: &mut Text) {
     match outcome {
-        Outcome::Refused(why) => refused(out, at, why),
-        Outcome::Done => answers::handles(out, at, b"dropped ", dropped),
-    }
-}
-
-// The queue after a purge, and the handles that left it.
-fn purged(world: World, args: Args, out: &mut [u8], at: usize) -> After {
-    let left = purge(world, args);
-    let outcome = left.outcome;
-    let dropped = left.handles;
-    let queue = left.queue;
-    let mut after = world;
-    after.queue = queue;
-    After {
-        world: after,
-        at: handed_back(out, at, outcome, dropped),
+        Err(why) => out.refused(why),
+        Ok(()) => out.handles(b"dropped ", dropped),
     }
 }
 
 // Turning SLAAC off: what it leaves, and the handles of the packets that went with an address.
-fn off(world: World, args: Args, out: &mut [u8], at: usize) -> After {
-    let mut iface = world.iface(args.iface);
-    let slaac = iface.slaac;
-    let addrs = iface.addrs;
-    let routes = world.routes;
-    let cache = world.cache;
-    let queue = world.queue;
-    let left = autoconf::turn_off(slaac, addrs, routes, cache, queue, args.iface);
-    let outcome = left.outcome;
-    let dropped = left.handles;
-    let slaac_after = left.slaac;
-    let addrs_after = left.addrs;
-    let routes_after = left.routes;
-    let cache_after = left.cache;
-    let queue_after = left.queue;
-    iface.slaac = slaac_after;
-    iface.addrs = addrs_after;
-    let mut after = world.with_iface(args.iface, iface);
-    after.routes = routes_after;
-    after.cache = cache_after;
-    after.queue = queue_after;
-    After {
-        world: after,
-        at: handed_back(out, at, outcome, dropped),
-    }
-}
-
-fn swept(
-    out: &mut [u8],
-    at: usize,
-    outcome: Outcome,
-    clock: Clock,
-    looked: usize,
-    events: Events,
-) -> usize {
-    match outcome {
-        Outcome::Refused(why) => {
-            let after_refusal = refused(out, at, why);
-            answers::looked(out, after_refusal, looked)
-        }
-        Outcome::Done => {
-            let end = clock.deadline;
-            let after_deadline = deadline_after(out, at, b"deadline ", end);
-            let after_looked = answers::looked(out, after_deadline, looked);
-            answers::events(out, after_looked, events)
-        }
-    }
-}
-
-fn sweep(world: World, args: Args, out: &mut [u8], at: usize) -> After {
-    let cache = world.cache;
-    let left = lending::sweep(cache, clock_of(args), args.iface);
-    let clock = left.clock;
-    let reported = left.reported;
-    let outcome = reported.outcome;
-    let events = reported.events;
-    let looked = reported.looked;
-    let cache_after = reported.cache;
-    let mut after = world;
-    after.cache = cache_after;
-    after.clock = clock;
-    After {
-        world: after,
-        at: swept(out, at, outcome, clock, looked, events),
-    }
-}
-
-// What was sent, after a poll that sent something.
-fn sent(out: &mut [u8], at: usize, answer: PollAnswer, buf: &[u8]) -> usize {
-    let PollAnswer::Solicited = answer else {
-        return at;
-    };
-    // Named at both ends, a part needs no proof of its bounds.
-    let start = 0;
-    let len = count_of(SOLICIT_LEN, buf.len());
-    let after_space = print::byte(out, at, b' ');
-    print::hexes(out, after_space, &buf[start..len])
-}
-
-fn polled(out: &mut [u8], at: usize, answer: PollAnswer, clock: Clock, buf: &[u8]) -> usize {
-    if let PollAnswer::Refused(why) = answer {
-        return refused(out, at, why);
-    }
-    let end = clock.deadline;
-    let after_deadline = deadline_after(out, at, b"deadline ", end);
-    let after_space = print::byte(out, after_deadline, b' ');
-    let after_answer = answers::poll(out, after_space, answer);
-    sent(out, after_answer, answer, buf)
-}
-
-fn poll_into(world: World, args: Args, buf: &mut [u8]) -> PolledWorld {
-    let mut iface = world.iface(args.iface);
-    let slaac = iface.slaac;
-    let addrs = iface.addrs;
-    let routes = world.routes;
-    let hardware_addr = world.hardware_addr;
-    let left = lending::poll(
-        slaac,
-        addrs,
-        routes,
-        args.iface,
-        iface.up,
-        hardware_addr,
-        buf,
-        clock_of(args),
+fn off(world: &mut World, iface: u8, out: &mut Text) {
+    let part = *world.iface(iface);
+    let left = autoconf::turn_off(
+        part.slaac,
+        part.addrs,
+        world.routes,
+        world.cache,
+        world.queue,
+        iface,
     );
-    let clock = left.clock;
-    let turn = left.polled;
-    let answer = turn.answer;
-    let slaac_after = turn.slaac;
-    let addrs_after = turn.addrs;
-    let routes_after = turn.routes;
-    iface.slaac = slaac_after;
-    iface.addrs = addrs_after;
-    let mut after = world.with_iface(args.iface, iface);
-    after.routes = routes_after;
-    after.clock = clock;
-    PolledWorld {
-        world: after,
-        answer,
-        clock,
+    let part = world.iface_mut(iface);
+    part.slaac = left.slaac;
+    part.addrs = left.addrs;
+    world.routes = left.routes;
+    world.cache = left.cache;
+    world.queue = left.queue;
+    handed_back(left.outcome, left.handles, out);
+}
+
+fn ra(
+    world: &mut World,
+    iface: u8,
+    source: Ipv6Addr,
+    now: Instant,
+    message: &[u8],
+    out: &mut Text,
+) {
+    let slaac = world.iface(iface).slaac;
+    let left = autoconf::process_advertisement(slaac, world.cache, iface, source, message, now);
+    world.iface_mut(iface).slaac = left.slaac;
+    world.cache = left.cache;
+    out.advert(left.answer);
+}
+
+// The queue after a purge, and the handles that left it.
+fn purged(world: &mut World, left: Purged, out: &mut Text) {
+    world.queue = left.queue;
+    handed_back(left.outcome, left.handles, out);
+}
+
+fn sweep(world: &mut World, iface: u8, clock: Clock, out: &mut Text) {
+    let left = lending::sweep(world.cache, clock, iface);
+    world.cache = left.reported.cache;
+    world.clock = left.clock;
+    match left.reported.outcome {
+        Err(why) => {
+            out.refused(why);
+            out.looked(left.reported.looked);
+        }
+        Ok(()) => {
+            out.deadline_after(b"deadline ", left.clock.deadline);
+            out.looked(left.reported.looked);
+            out.events(left.reported.events);
+        }
     }
 }
 
-// Of the buffer as much is lent as the line says and there is.
-fn poll_with(world: World, args: Args, buf: &mut [u8], out: &mut [u8], at: usize) -> After {
-    let start = 0;
-    let room = count_of(args.number as usize, buf.len());
-    let left = poll_into(world, args, &mut buf[start..room]);
-    let after = left.world;
-    let answer = left.answer;
-    let clock = left.clock;
-    After {
-        world: after,
-        at: polled(out, at, answer, clock, buf),
-    }
-}
-
-fn poll(world: World, args: Args, out: &mut [u8], at: usize) -> After {
+fn poll(world: &mut World, iface: u8, clock: Clock, lent: usize, out: &mut Text) {
     let mut buf = [UNWRITTEN; LENT];
-    poll_with(world, args, &mut buf, out, at)
-}
-
-fn call(world: World, args: Args, message: &[u8], out: &mut [u8], at: usize) -> After {
-    let code = args.code;
-    match code {
-        OFF => off(world, args, out, at),
-        ORPHANS | PURGE => purged(world, args, out, at),
-        SWEEP => sweep(world, args, out, at),
-        POLL => poll(world, args, out, at),
-        _ => acted(world, args, message, out, at),
-    }
-}
-
-// What a line leaves; the place as it was where it is no line of these.
-pub fn act_line(world: World, line: &[u8], room: &mut [u8], out: &mut [u8], at: usize) -> After {
-    let args = read_call(
-        line,
-        b"new mt;clock td;expired t;schedule t;start ia;fill iamt;insert iamt;clear i;remove ia;push iah;release ia;address iao;route ia;routeto iaoz;link iu;restart i;on i;off i;ra iatx;orphans ;purge i;sweep itd;poll itdn;",
-        room,
+    let part = *world.iface(iface);
+    let left = lending::poll(
+        part.slaac,
+        part.addrs,
+        world.routes,
+        iface,
+        part.up,
+        world.hardware_addr,
+        &mut buf[..lent.min(LENT)],
+        clock,
     );
-    if !args.ok {
-        return After { world, at };
+    let part = world.iface_mut(iface);
+    part.slaac = left.polled.slaac;
+    part.addrs = left.polled.addrs;
+    world.routes = left.polled.routes;
+    world.clock = left.clock;
+    polled(left.polled.answer, left.clock, &buf[..SOLICIT_LEN], out);
+}
+
+// What was sent is printed after a poll that sent something.
+fn polled(answer: Result<PollAnswer, Refusal>, clock: Clock, sent: &[u8], out: &mut Text) {
+    if let Err(why) = answer {
+        out.refused(why);
+        return;
     }
-    let start = 0;
-    let len = count_of(args.len, room.len());
-    call(world, args, &room[start..len], out, at)
+    out.deadline_after(b"deadline ", clock.deadline);
+    out.word(b" ");
+    out.poll(answer);
+    if let Ok(PollAnswer::Solicited) = answer {
+        out.word(b" ");
+        out.hexes(sent);
+    }
+}
+
+fn act(world: &mut World, call: Call, out: &mut Text) {
+    match call {
+        Call::New(hardware_addr, first) => {
+            *world = World::new(hardware_addr, first);
+            out.outcome(Ok(()));
+        }
+        Call::Clock(clock) => {
+            world.clock = clock;
+            out.outcome(Ok(()));
+        }
+        Call::Expired(at) => expired(world, at, out),
+        Call::Schedule(at) => schedule(world, at, out),
+        Call::Start(iface, addr) => {
+            let left = world.cache.start_resolution(iface, addr);
+            changed(world, left, out);
+        }
+        Call::Fill(iface, addr, hardware_addr, now) => {
+            let left = world.cache.fill(iface, addr, hardware_addr, now);
+            changed(world, left, out);
+        }
+        Call::Insert(iface, addr, hardware_addr, now) => {
+            let left = world.cache.insert(iface, addr, hardware_addr, now);
+            changed(world, left, out);
+        }
+        Call::Clear(iface) => {
+            let left = world.cache.clear_iface(iface);
+            changed(world, left, out);
+        }
+        Call::Remove(iface, addr) => remove(world, iface, addr, out),
+        Call::Push(iface, addr, handle) => push(world, iface, addr, handle, out),
+        Call::Release(iface, addr) => release(world, iface, addr, out),
+        Call::Address(iface, cidr) => address(world, iface, cidr, out),
+        Call::Route(iface, cidr, via) => route(world, iface, cidr, via, out),
+        Call::Link(iface, up) => link(world, iface, up, out),
+        Call::Restart(iface) => restart(world, iface, out),
+        Call::On(iface) => on(world, iface, out),
+        Call::Off(iface) => off(world, iface, out),
+        Call::Ra(iface, source, now, message) => ra(world, iface, source, now, message, out),
+        Call::Orphans => {
+            let left = world.queue.purge_orphans(world.cache);
+            purged(world, left, out);
+        }
+        Call::Purge(iface) => {
+            let left = world.queue.purge_iface(iface);
+            purged(world, left, out);
+        }
+        Call::Sweep(iface, clock) => sweep(world, iface, clock, out),
+        Call::Poll(iface, clock, lent) => poll(world, iface, clock, lent, out),
+    }
+}
+
+fn read_call<'a>(line: &[u8], room: &'a mut [u8]) -> Option<Call<'a>> {
+    let mut fields = Fields::new(line);
+    let call = read_fields(&mut fields, room)?;
+    fields.is_empty().then_some(call)
+}
+
+// Carries out a line, if it is one of these, and says whether it was.
+pub fn act_line(world: &mut World, line: &[u8], room: &mut [u8], out: &mut Text) -> bool {
+    let Some(call) = read_call(line, room) else {
+        return false;
+    };
+    act(world, call, out);
+    true
 }

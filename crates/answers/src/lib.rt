@@ -2,201 +2,220 @@
 #![tactic(auto)]
 
 use autoconf::{AdvertAnswer, PollAnswer};
-use neighbor::{Answer, Got, NEIGHBOR_CACHE_COUNT, NeighborState};
-use pending::{Handles, PENDING_QUEUE_COUNT, Push, Release};
-use report::listing::number_field;
+use neighbor::{Answer, NEIGHBOR_CACHE_COUNT, Neighbor, NeighborState};
+use pending::{Handles, PENDING_QUEUE_COUNT};
 use sweep::{Events, ProbeEvent};
-use table::count_of;
-use text::print;
-use time::Deadline;
-use wire::error::{Outcome, Refusal};
+use text::print::Text;
+use time::Instant;
+use wire::error::Refusal;
 use wire::ethernet::HardwareAddress;
 use wire::ipv6::Ipv6Addr;
 
-// A word, and a number, an address, a hardware address or a deadline after it.
-pub fn number_after(out: &mut [u8], at: usize, word: &[u8], value: u64) -> usize {
-    let after_word = print::word(out, at, word);
-    print::number(out, after_word, value)
+// An answer, or a part of one, added to a text.
+pub trait Answers {
+    // A number after a space.
+    fn field(&mut self, value: u64);
+
+    // A word, and a number, an address, a hardware address, a deadline or a flag after it.
+    fn number_after(&mut self, word: &[u8], value: u64);
+
+    fn address_after(&mut self, word: &[u8], addr: Ipv6Addr);
+
+    fn hardware_after(&mut self, word: &[u8], hardware_addr: HardwareAddress);
+
+    fn deadline_after(&mut self, word: &[u8], end: Option<Instant>);
+
+    fn flag(&mut self, word: &[u8], set: bool);
+
+    fn yes_or_no(&mut self, yes: bool);
+
+    fn bytes(&mut self, message: &[u8]);
+
+    fn refused(&mut self, why: Refusal);
+
+    fn outcome(&mut self, answered: Result<(), Refusal>);
+
+    // What stands in front of an entry of a list that has a key.
+    fn key(&mut self, iface: u8, addr: Ipv6Addr);
+
+    // A word, the count, and the handles.
+    fn handles(&mut self, word: &[u8], list: Handles);
+
+    fn push(&mut self, answered: Result<Option<u32>, Refusal>);
+
+    fn release(&mut self, answered: Result<Option<u32>, Refusal>);
+
+    // How many entries a sweep looked at.
+    fn looked(&mut self, count: usize);
+
+    // The events of a sweep, in order.
+    fn events(&mut self, list: Events);
+
+    fn lookup(&mut self, answered: Result<Answer, Refusal>);
+
+    // A neighbour's state as an application sees it.
+    fn neighbor_state(&mut self, state: NeighborState);
+
+    fn got(&mut self, answered: Result<Option<Neighbor>, Refusal>);
+
+    fn advert(&mut self, answered: Result<AdvertAnswer, Refusal>);
+
+    fn poll(&mut self, answered: Result<PollAnswer, Refusal>);
 }
 
-pub fn address_after(out: &mut [u8], at: usize, word: &[u8], addr: Ipv6Addr) -> usize {
-    let after_word = print::word(out, at, word);
-    print::address(out, after_word, addr)
-}
-
-pub fn hardware_after(
-    out: &mut [u8],
-    at: usize,
-    word: &[u8],
-    hardware_addr: HardwareAddress,
-) -> usize {
-    let after_word = print::word(out, at, word);
-    print::hardware(out, after_word, hardware_addr)
-}
-
-fn deadline(out: &mut [u8], at: usize, end: Deadline) -> usize {
-    match end {
-        Deadline::None => print::byte(out, at, b'-'),
-        Deadline::At(time) => print::number(out, at, time.0),
+impl Answers for Text<'_> {
+    fn field(&mut self, value: u64) {
+        self.number_after(b" ", value);
     }
-}
 
-pub fn deadline_after(out: &mut [u8], at: usize, word: &[u8], end: Deadline) -> usize {
-    let after_word = print::word(out, at, word);
-    deadline(out, after_word, end)
-}
-
-fn digit(set: bool) -> u8 {
-    if set { b'1' } else { b'0' }
-}
-
-// A word, then 1 or 0.
-pub fn flag(out: &mut [u8], at: usize, word: &[u8], set: bool) -> usize {
-    let after_word = print::word(out, at, word);
-    print::byte(out, after_word, digit(set))
-}
-
-pub fn yes_or_no(out: &mut [u8], at: usize, yes: bool) -> usize {
-    if yes {
-        return print::word(out, at, b"yes");
+    fn number_after(&mut self, word: &[u8], value: u64) {
+        self.word(word);
+        self.number(value);
     }
-    print::word(out, at, b"no")
-}
 
-pub fn bytes(out: &mut [u8], at: usize, message: &[u8]) -> usize {
-    if message.len() == 0 {
-        return print::byte(out, at, b'-');
+    fn address_after(&mut self, word: &[u8], addr: Ipv6Addr) {
+        self.word(word);
+        self.address(addr);
     }
-    print::hexes(out, at, message)
-}
 
-pub fn refused(out: &mut [u8], at: usize, why: Refusal) -> usize {
-    number_after(out, at, b"refused ", why.number() as u64)
-}
-
-pub fn outcome(out: &mut [u8], at: usize, answered: Outcome) -> usize {
-    match answered {
-        Outcome::Refused(why) => refused(out, at, why),
-        Outcome::Done => print::word(out, at, b"ok"),
+    fn hardware_after(&mut self, word: &[u8], hardware_addr: HardwareAddress) {
+        self.word(word);
+        self.hardware(hardware_addr);
     }
-}
 
-// What stands in front of an entry of a list that has a key.
-pub fn key(out: &mut [u8], at: usize, iface: u8, addr: Ipv6Addr) -> usize {
-    let after_iface = number_after(out, at, b"; ", iface as u64);
-    address_after(out, after_iface, b" ", addr)
-}
-
-// A word, the count, and the handles.
-pub fn handles(out: &mut [u8], at: usize, word: &[u8], list: Handles) -> usize {
-    let count = count_of(list.len, PENDING_QUEUE_COUNT);
-    let mut next = number_after(out, at, word, count as u64);
-    let mut i = 0;
-    while i < count {
-        next = number_field(out, next, list.slots[i] as u64);
-        i += 1;
-    }
-    next
-}
-
-pub fn push(out: &mut [u8], at: usize, answered: Push) -> usize {
-    match answered {
-        Push::Refused(why) => refused(out, at, why),
-        Push::Queued => print::word(out, at, b"dropped 0"),
-        Push::Dropped(handle) => number_after(out, at, b"dropped 1 ", handle as u64),
-    }
-}
-
-pub fn release(out: &mut [u8], at: usize, answered: Release) -> usize {
-    match answered {
-        Release::Refused(why) => refused(out, at, why),
-        Release::Nothing => print::word(out, at, b"nothing"),
-        Release::Handle(handle) => number_after(out, at, b"handle ", handle as u64),
-    }
-}
-
-fn event(out: &mut [u8], at: usize, probe: ProbeEvent) -> usize {
-    match probe {
-        ProbeEvent::Retransmit(addr) => address_after(out, at, b"; retransmit ", addr),
-        ProbeEvent::Failed(addr) => address_after(out, at, b"; failed ", addr),
-    }
-}
-
-// How many entries a sweep looked at.
-pub fn looked(out: &mut [u8], at: usize, count: usize) -> usize {
-    number_after(out, at, b" looked ", count as u64)
-}
-
-// The events of a sweep, in order.
-pub fn events(out: &mut [u8], at: usize, list: Events) -> usize {
-    let count = count_of(list.len, NEIGHBOR_CACHE_COUNT);
-    let mut next = number_after(out, at, b" events ", count as u64);
-    let mut i = 0;
-    while i < count {
-        let slot = list.slots[i];
-        let probe = slot.event;
-        next = event(out, next, probe);
-        i += 1;
-    }
-    next
-}
-
-pub fn lookup(out: &mut [u8], at: usize, answered: Answer) -> usize {
-    match answered {
-        Answer::Refused(why) => refused(out, at, why),
-        Answer::Found(hardware_addr) => hardware_after(out, at, b"found ", hardware_addr),
-        Answer::Pending => print::word(out, at, b"pending"),
-        Answer::NotFound => print::word(out, at, b"notfound"),
-    }
-}
-
-fn reachable(out: &mut [u8], at: usize, hardware_addr: HardwareAddress, until: u64) -> usize {
-    let after_hardware = hardware_after(out, at, b"reachable ", hardware_addr);
-    number_field(out, after_hardware, until)
-}
-
-fn stale(out: &mut [u8], at: usize, hardware_addr: HardwareAddress) -> usize {
-    let after_hardware = hardware_after(out, at, b"stale ", hardware_addr);
-    print::word(out, after_hardware, b" -")
-}
-
-// A neighbour's state as an application sees it.
-pub fn neighbor_state(out: &mut [u8], at: usize, state: NeighborState) -> usize {
-    match state {
-        NeighborState::Incomplete => print::word(out, at, b"incomplete - -"),
-        NeighborState::Reachable {
-            hardware_addr,
-            expires_at,
-        } => reachable(out, at, hardware_addr, expires_at.0),
-        NeighborState::Stale { hardware_addr } => stale(out, at, hardware_addr),
-    }
-}
-
-pub fn got(out: &mut [u8], at: usize, answered: Got) -> usize {
-    match answered {
-        Got::Refused(why) => refused(out, at, why),
-        Got::Nothing => print::word(out, at, b"nothing"),
-        Got::Is(neighbor) => {
-            let state = neighbor.state;
-            neighbor_state(out, at, state)
+    fn deadline_after(&mut self, word: &[u8], end: Option<Instant>) {
+        self.word(word);
+        match end {
+            None => self.word(b"-"),
+            Some(time) => self.number(time.0),
         }
     }
-}
 
-pub fn advert(out: &mut [u8], at: usize, answered: AdvertAnswer) -> usize {
-    match answered {
-        AdvertAnswer::Refused(why) => refused(out, at, why),
-        AdvertAnswer::Off => print::word(out, at, b"off"),
-        AdvertAnswer::Done => print::word(out, at, b"ok"),
+    fn flag(&mut self, word: &[u8], set: bool) {
+        self.word(word);
+        self.word(if set { b"1" } else { b"0" });
     }
-}
 
-pub fn poll(out: &mut [u8], at: usize, answered: PollAnswer) -> usize {
-    match answered {
-        PollAnswer::Refused(why) => refused(out, at, why),
-        PollAnswer::Off => print::word(out, at, b"off"),
-        PollAnswer::Quiet => print::word(out, at, b"nothing"),
-        PollAnswer::Solicited => print::word(out, at, b"solicit"),
-        PollAnswer::NoRoom => print::word(out, at, b"noroom"),
+    fn yes_or_no(&mut self, yes: bool) {
+        if yes {
+            self.word(b"yes");
+        } else {
+            self.word(b"no");
+        }
+    }
+
+    fn bytes(&mut self, message: &[u8]) {
+        if message.is_empty() {
+            self.word(b"-");
+        } else {
+            self.hexes(message);
+        }
+    }
+
+    fn refused(&mut self, why: Refusal) {
+        self.number_after(b"refused ", why.number() as u64);
+    }
+
+    fn outcome(&mut self, answered: Result<(), Refusal>) {
+        match answered {
+            Err(why) => self.refused(why),
+            Ok(()) => self.word(b"ok"),
+        }
+    }
+
+    fn key(&mut self, iface: u8, addr: Ipv6Addr) {
+        self.number_after(b"; ", iface as u64);
+        self.address_after(b" ", addr);
+    }
+
+    fn handles(&mut self, word: &[u8], list: Handles) {
+        let count = list.len.min(PENDING_QUEUE_COUNT);
+        self.number_after(word, count as u64);
+        for handle in &list.slots[..count] {
+            self.field(*handle as u64);
+        }
+    }
+
+    fn push(&mut self, answered: Result<Option<u32>, Refusal>) {
+        match answered {
+            Err(why) => self.refused(why),
+            Ok(None) => self.word(b"dropped 0"),
+            Ok(Some(handle)) => self.number_after(b"dropped 1 ", handle as u64),
+        }
+    }
+
+    fn release(&mut self, answered: Result<Option<u32>, Refusal>) {
+        match answered {
+            Err(why) => self.refused(why),
+            Ok(None) => self.word(b"nothing"),
+            Ok(Some(handle)) => self.number_after(b"handle ", handle as u64),
+        }
+    }
+
+    fn looked(&mut self, count: usize) {
+        self.number_after(b" looked ", count as u64);
+    }
+
+    fn events(&mut self, list: Events) {
+        let count = list.len.min(NEIGHBOR_CACHE_COUNT);
+        self.number_after(b" events ", count as u64);
+        for event in &list.slots[..count] {
+            match *event {
+                ProbeEvent::Retransmit(addr) => self.address_after(b"; retransmit ", addr),
+                ProbeEvent::Failed(addr) => self.address_after(b"; failed ", addr),
+            }
+        }
+    }
+
+    fn lookup(&mut self, answered: Result<Answer, Refusal>) {
+        match answered {
+            Err(why) => self.refused(why),
+            Ok(Answer::Found(hardware_addr)) => self.hardware_after(b"found ", hardware_addr),
+            Ok(Answer::Pending) => self.word(b"pending"),
+            Ok(Answer::NotFound) => self.word(b"notfound"),
+        }
+    }
+
+    fn neighbor_state(&mut self, state: NeighborState) {
+        match state {
+            NeighborState::Incomplete => self.word(b"incomplete - -"),
+            NeighborState::Reachable {
+                hardware_addr,
+                expires_at,
+            } => {
+                self.hardware_after(b"reachable ", hardware_addr);
+                self.field(expires_at.0);
+            }
+            NeighborState::Stale { hardware_addr } => {
+                self.hardware_after(b"stale ", hardware_addr);
+                self.word(b" -");
+            }
+        }
+    }
+
+    fn got(&mut self, answered: Result<Option<Neighbor>, Refusal>) {
+        match answered {
+            Err(why) => self.refused(why),
+            Ok(None) => self.word(b"nothing"),
+            Ok(Some(neighbor)) => self.neighbor_state(neighbor.state),
+        }
+    }
+
+    fn advert(&mut self, answered: Result<AdvertAnswer, Refusal>) {
+        match answered {
+            Err(why) => self.refused(why),
+            Ok(AdvertAnswer::Off) => self.word(b"off"),
+            Ok(AdvertAnswer::Done) => self.word(b"ok"),
+        }
+    }
+
+    fn poll(&mut self, answered: Result<PollAnswer, Refusal>) {
+        match answered {
+            Err(why) => self.refused(why),
+            Ok(PollAnswer::Off) => self.word(b"off"),
+            Ok(PollAnswer::Quiet) => self.word(b"nothing"),
+            Ok(PollAnswer::Solicited) => self.word(b"solicit"),
+            Ok(PollAnswer::NoRoom) => self.word(b"noroom"),
+        }
     }
 }

@@ -3,6 +3,8 @@ use Prim.Native.Nat.{ℕ}
 use mathlib.Core.Bool.{Bool, true, false, cond}
 use mathlib.Core.List.{List, [], ◌∷◌}
 use mathlib.Core.Path.{◌≡◌, refl, ap, sym, ◌∙◌, subst}
+use Rattle.std.specs.Prelude.{Result, Ok, Err}
+use Rattle.wire.specs.declared.error.Refusal.{Refusal}
 use Rattle.iface.proofs.Distinct.{once_new, once_added, once_put, once_drop, once_clear, put_slaac_lem, drop_slaac_lem}
 use Rattle.iface.specs.AddressRules.{addrs_of, with_addrs, put_addr, drop_addr}
 use Rattle.iface.specs.Distinct.{AddrsOnce}
@@ -21,9 +23,6 @@ use Rattle.time.specs.declared.Clock.{Clock}
 use Rattle.time.specs.declared.Instant.{Instant}
 use Rattle.wire.specs.Refusals.{iface_check, time_check}
 use Rattle.wire.specs.Rfc2464.{formed_of}
-use Rattle.wire.specs.declared.error.Check.TheVariants.{Fine, Refused as Fails}
-use Rattle.wire.specs.declared.error.Check.{Check}
-use Rattle.wire.specs.declared.error.Outcome.TheVariants.{Done}
 use Rattle.wire.specs.declared.ethernet.HardwareAddress.{HardwareAddress}
 use Rattle.wire.specs.declared.ipv6.Formed.TheVariants.{Nothing, Addr}
 use Rattle.wire.specs.declared.ipv6.Formed.{Formed}
@@ -80,7 +79,7 @@ module _ (hw : HardwareAddress) (now : Instant) where
 
 -- The calls
 
-once_turn : (s : Slaac) (t : IfaceAddrs) (r : Routes) (iface : ℕ) (hw : HardwareAddress) (now : Instant) (k : Clock) (a : PollAnswer) → AddrsOnce t
+once_turn : (s : Slaac) (t : IfaceAddrs) (r : Routes) (iface : ℕ) (hw : HardwareAddress) (now : Instant) (k : Clock) (a : Result PollAnswer Refusal) → AddrsOnce t
     → AddrsOnce (sync_turn s t r iface hw now k a).polled.addrs
 unfolding sync_turn
 once_turn s t r iface hw now k a o = go (sync_due s k).expired
@@ -97,26 +96,26 @@ module _ (s : Slaac) (t : IfaceAddrs) (r : Routes) (iface : ℕ) where
     unfolding poll_on
     once_poll w o = subst (λ (x : PolledAt). AddrsOnce x.polled.addrs) (sym w.is) (by (time_check k.now iface))
       where
-        on : (b : Bool) → AddrsOnce (cond {A = PolledAt} b (poll_on s t r iface up hw buf k) (polled s t r k Off)).polled.addrs
+        on : (b : Bool) → AddrsOnce (cond {A = PolledAt} b (poll_on s t r iface up hw buf k) (polled s t r k (Ok Off))).polled.addrs
         on true = once_turn _ t r iface hw k.now _ _ o
         on false = o
 
-        by : (c : Check) → AddrsOnce (poll_by c s t r iface up hw buf k).polled.addrs
-        by (Fails why) = o
-        by Fine = on s.on
+        by : (c : Result (Unit {0}) Refusal) → AddrsOnce (poll_by c s t r iface up hw buf k).polled.addrs
+        by (Err why) = o
+        by (Ok tt) = on s.on
 
   module _ (c : NeighborCache) (q : PendingQueue) (x : TurnedOff) where
     once_off : TurnedOffTo s t r c q iface x → AddrsOnce t → AddrsOnce x.addrs
     unfolding off_now
     once_off w o = subst (λ (y : TurnedOff). AddrsOnce y.addrs) (sym w.is) (by (iface_check iface))
       where
-        on : (b : Bool) → AddrsOnce (cond {A = TurnedOff} b (off_now t r c q iface) (left_alone s t r c q Done)).addrs
+        on : (b : Bool) → AddrsOnce (cond {A = TurnedOff} b (off_now t r c q iface) (left_alone s t r c q (Ok tt))).addrs
         on true = once_clear t o
         on false = o
 
-        by : (k : Check) → AddrsOnce (off_by k s t r c q iface).addrs
-        by (Fails why) = o
-        by Fine = on s.on
+        by : (k : Result (Unit {0}) Refusal) → AddrsOnce (off_by k s t r c q iface).addrs
+        by (Err why) = o
+        by (Ok tt) = on s.on
 
 pub addresses_once : AddressesOnce
 addresses_once =

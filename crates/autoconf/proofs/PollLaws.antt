@@ -5,10 +5,10 @@ use lib.ListN.{length, drop}
 use mathlib.Core.Bool.{Bool, true, false, cond, ◌&&◌}
 use mathlib.Core.List.{List, [], ◌++◌}
 use mathlib.Core.Path.{◌≡◌, refl, ap, sym, ◌∙◌}
+use Rattle.std.specs.Prelude.{Option, Some, None, Result, Ok}
+use Rattle.wire.specs.declared.error.Refusal.{Refusal}
 use Rattle.iface.specs.AddressRules.{addrs_of, first_local}
 use Rattle.iface.specs.declared.addr.IfaceAddrs.{IfaceAddrs}
-use Rattle.iface.specs.declared.addr.Source.TheVariants.{Nothing, From}
-use Rattle.iface.specs.declared.addr.Source.{Source}
 use Rattle.iface.specs.declared.route.Routes.{Routes}
 use Rattle.slaac.specs.DiscoveryRules.{solicitation}
 use Rattle.slaac.specs.Fields.{with_discovery}
@@ -30,8 +30,6 @@ use Rattle.autoconf.specs.declared.Turn.{Turn}
 use Rattle.time.specs.declared.Answer.{Answer}
 use Rattle.time.specs.declared.Clock.{Clock}
 use Rattle.time.specs.declared.Instant.{Instant}
-use Rattle.wire.specs.declared.error.Check.TheVariants.{Fine}
-use Rattle.wire.specs.declared.error.Check.{Check}
 use Rattle.wire.specs.declared.ethernet.HardwareAddress.{HardwareAddress}
 use Rattle.wire.specs.declared.ipv6.Ipv6Addr.{Ipv6Addr}
 
@@ -40,13 +38,13 @@ use Rattle.wire.specs.declared.ipv6.Ipv6Addr.{Ipv6Addr}
 abbrev pub turned : Discovery → Clock → PollAnswer → Turn
 turned d k a = record { discovery = d; clock = k; answer = a }
 
-no_refusal : (due room : Bool) → poll_number (cond due (cond room Solicited NoRoom) Quiet) ≡ 0
+no_refusal : (due room : Bool) → poll_number (Ok (cond due (cond room Solicited NoRoom) Quiet)) ≡ 0
 no_refusal true true = refl
 no_refusal true false = refl
 no_refusal false room = refl
 
 sent : (a : Ipv6Addr) (hw : HardwareAddress) (buf : List ℕ) (due room : Bool)
-    → poll_sent (cond due (cond room Solicited NoRoom) Quiet) (cond due (cond room (message a hw ++ drop 16 buf) buf) buf)
+    → poll_sent (Ok (cond due (cond room Solicited NoRoom) Quiet)) (cond due (cond room (message a hw ++ drop 16 buf) buf) buf)
     ≡ cond (due && room) (message a hw) []
 sent a hw buf true true = refl
 sent a hw buf true false = refl
@@ -55,47 +53,47 @@ sent a hw buf false false = refl
 
 module _ (d : Discovery) (hw : HardwareAddress) (buf : List ℕ) (k : Clock) where
   -- no sender
-  pub turn_none : (sender : Source) → sender ≡ Nothing → TurnTo d sender hw buf k (turned d k Quiet) buf
+  pub turn_none : (sender : Option Ipv6Addr) → sender ≡ None → TurnTo d sender hw buf k (turned d k Quiet) buf
   unfolding turn_of buffer_of sent_of
   turn_none sender e =
       record {
-        is = ap (λ (x : Source). turn_for (solicit_from x d k) buf) (sym e);
+        is = ap (λ (x : Option Ipv6Addr). turn_for (solicit_from x d k) buf) (sym e);
         number = refl;
-        sends = ap (λ (x : Source). sent_by x (solicit_from x d k).due hw buf) (sym e);
-        leaves = ap (λ (x : Source). buffer_by x (solicit_from x d k).due hw buf) (sym e);
+        sends = ap (λ (x : Option Ipv6Addr). sent_by x (solicit_from x d k).due hw buf) (sym e);
+        leaves = ap (λ (x : Option Ipv6Addr). buffer_by x (solicit_from x d k).due hw buf) (sym e);
       }
 
-  module _ (sender : Source) (a : Ipv6Addr) (e : sender ≡ From a) (s : Solicitation) (g : s ≡ solicitation d k) where
+  module _ (sender : Option Ipv6Addr) (a : Ipv6Addr) (e : sender ≡ Some a) (s : Solicitation) (g : s ≡ solicitation d k) where
     -- what a sender's turn is, by whether a solicitation is due
-    from_sender : (t : Turn) (buf' : List ℕ) → t ≡ turn_for s buf → buf' ≡ buffer_by (From a) s.due hw buf → TurnTo d sender hw buf k t buf'
+    from_sender : (t : Turn) (buf' : List ℕ) → t ≡ turn_for s buf → buf' ≡ buffer_by (Some a) s.due hw buf → TurnTo d sender hw buf k t buf'
     unfolding turn_of buffer_of sent_of
     from_sender t buf' p q =
         record {
-          is = p ∙ (ap (λ (x : Solicitation). turn_for x buf) g ∙ ap (λ (x : Source). turn_for (solicit_from x d k) buf) (sym e));
-          number = ap (λ (x : Turn). poll_number x.answer) p ∙ no_refusal s.due (leb 16 (length buf));
+          is = p ∙ (ap (λ (x : Solicitation). turn_for x buf) g ∙ ap (λ (x : Option Ipv6Addr). turn_for (solicit_from x d k) buf) (sym e));
+          number = ap (λ (x : Turn). poll_number (Ok x.answer)) p ∙ no_refusal s.due (leb 16 (length buf));
           sends =
-              (λ i. poll_sent (p i).answer (q i))
+              (λ i. poll_sent (Ok (p i).answer) (q i))
               ∙ (sent a hw buf s.due (leb 16 (length buf))
-              ∙ (ap (λ (x : Solicitation). sent_by (From a) x.due hw buf) g
-              ∙ ap (λ (x : Source). sent_by x (solicit_from x d k).due hw buf) (sym e)));
+              ∙ (ap (λ (x : Solicitation). sent_by (Some a) x.due hw buf) g
+              ∙ ap (λ (x : Option Ipv6Addr). sent_by x (solicit_from x d k).due hw buf) (sym e)));
           leaves =
               q
-              ∙ (ap (λ (x : Solicitation). buffer_by (From a) x.due hw buf) g
-              ∙ ap (λ (x : Source). buffer_by x (solicit_from x d k).due hw buf) (sym e));
+              ∙ (ap (λ (x : Solicitation). buffer_by (Some a) x.due hw buf) g
+              ∙ ap (λ (x : Option Ipv6Addr). buffer_by x (solicit_from x d k).due hw buf) (sym e));
         }
 
     pub turn_early : s.due ≡ false → TurnTo d sender hw buf k (turned s.discovery s.clock Quiet) buf
     turn_early h =
         from_sender (turned s.discovery s.clock Quiet) buf
         (ap (λ (b : Bool). turned s.discovery s.clock (answer_of b buf)) (sym h))
-        (ap (λ (b : Bool). buffer_by (From a) b hw buf) (sym h))
+        (ap (λ (b : Bool). buffer_by (Some a) b hw buf) (sym h))
 
     module _ (h : s.due ≡ true) (r : Wrote) (buf' : List ℕ) (w : Solicits buf a hw r buf') where
       said : (x : PollAnswer) → x ≡ cond (leb 16 (length buf)) Solicited NoRoom → TurnTo d sender hw buf k (turned s.discovery s.clock x) buf'
       said x f =
           from_sender (turned s.discovery s.clock x) buf'
           (ap (λ (y : PollAnswer). turned s.discovery s.clock y) f ∙ ap (λ (b : Bool). turned s.discovery s.clock (answer_of b buf)) (sym h))
-          (w.leaves ∙ ap (λ (b : Bool). buffer_by (From a) b hw buf) (sym h))
+          (w.leaves ∙ ap (λ (b : Bool). buffer_by (Some a) b hw buf) (sym h))
 
       pub turn_sent : r ≡ Written → TurnTo d sender hw buf k (turned s.discovery s.clock Solicited) buf'
       turn_sent f = said Solicited (go (leb 16 (length buf)) (sym w.is ∙ f))
@@ -111,19 +109,19 @@ module _ (d : Discovery) (hw : HardwareAddress) (buf : List ℕ) (k : Clock) whe
           go true z = cc
           go false z = refl
 
-pub down : (up : Bool) (source : Source) → up ≡ false → sender_of up source ≡ Nothing
+pub down : (up : Bool) (source : Option Ipv6Addr) → up ≡ false → sender_of up source ≡ None
 down up source e = simp e
 
-pub nowhere : (up : Bool) (source : Source) → source ≡ Nothing → sender_of up source ≡ Nothing
+pub nowhere : (up : Bool) (source : Option Ipv6Addr) → source ≡ None → sender_of up source ≡ None
 nowhere true source e = e
 nowhere false source e = refl
 
-pub somewhere : (up : Bool) (source : Source) (a : Ipv6Addr) → up ≡ true → source ≡ From a → sender_of up source ≡ From a
+pub somewhere : (up : Bool) (source : Option Ipv6Addr) (a : Ipv6Addr) → up ≡ true → source ≡ Some a → sender_of up source ≡ Some a
 somewhere up source a e f = simp e f
 
 -- The sync's turn: whether it is due is asked before the turn's discovery is stored, and does not look at it
 
-module _ (s : Slaac) (d : Discovery) (t : IfaceAddrs) (r : Routes) (iface : ℕ) (hw : HardwareAddress) (now : Instant) (k : Clock) (a : PollAnswer)
+module _ (s : Slaac) (d : Discovery) (t : IfaceAddrs) (r : Routes) (iface : ℕ) (hw : HardwareAddress) (now : Instant) (k : Clock) (a : Result PollAnswer Refusal)
     (x : Answer) (e : x ≡ sync_due s k) where
   asked : x ≡ sync_due (with_discovery s d) k
   unfolding sync_due
@@ -147,35 +145,32 @@ module _ (s : Slaac) (d : Discovery) (t : IfaceAddrs) (r : Routes) (iface : ℕ)
 pub on_yes : {A : Type 0} (b : Bool) (x y p : A) → b ≡ true → p ≡ x → p ≡ cond b x y
 on_yes b x y p e f = simp e f
 
-pub on_no : {A : Type 0} (b : Bool) (x y p : A) → b ≡ false → p ≡ y → p ≡ cond b x y
-on_no b x y p e f = simp e f
-
 module _ (s : Slaac) (t : IfaceAddrs) (r : Routes) (iface : ℕ) (up : Bool) (hw : HardwareAddress) (buf : List ℕ) (k : Clock) where
-  module _ (e : time_check k.now iface ≡ Fine) where
+  module _ (e : time_check k.now iface ≡ Ok tt) where
     -- by the checks, what is left of the promise
-    fine : (p : PolledAt) (buf' : List ℕ) → p ≡ poll_by Fine s t r iface up hw buf k → poll_number p.polled.answer ≡ 0
-        → poll_sent p.polled.answer buf' ≡ poll_message Fine s t up hw buf k → buf' ≡ poll_buffer Fine s t up hw buf k
+    fine : (p : PolledAt) (buf' : List ℕ) → p ≡ poll_by (Ok tt) s t r iface up hw buf k → poll_number p.polled.answer ≡ 0
+        → poll_sent p.polled.answer buf' ≡ poll_message (Ok tt) s t up hw buf k → buf' ≡ poll_buffer (Ok tt) s t up hw buf k
         → PolledTo s t r iface up hw buf k p buf'
     fine p buf' f n m g =
         record {
-          is = f ∙ ap (λ (c : Check). poll_by c s t r iface up hw buf k) (sym e);
+          is = f ∙ ap (λ (c : Result (Unit {0}) Refusal). poll_by c s t r iface up hw buf k) (sym e);
           number = n ∙ ap check_number (sym e);
-          sends = m ∙ ap (λ (c : Check). poll_message c s t up hw buf k) (sym e);
-          leaves = g ∙ ap (λ (c : Check). poll_buffer c s t up hw buf k) (sym e);
+          sends = m ∙ ap (λ (c : Result (Unit {0}) Refusal). poll_message c s t up hw buf k) (sym e);
+          leaves = g ∙ ap (λ (c : Result (Unit {0}) Refusal). poll_buffer c s t up hw buf k) (sym e);
         }
 
-    pub poll_on_lem : (source : Source) (u : Turn) (p : PolledAt) (buf' : List ℕ) → s.on ≡ true → source ≡ first_local (addrs_of t)
-        → TurnTo s.discovery (sender_of up source) hw buf k u buf' → p.polled.answer ≡ u.answer → p ≡ after_turn u s t r iface hw k.now
+    pub poll_on_lem : (source : Option Ipv6Addr) (u : Turn) (p : PolledAt) (buf' : List ℕ) → s.on ≡ true → source ≡ first_local (addrs_of t)
+        → TurnTo s.discovery (sender_of up source) hw buf k u buf' → p.polled.answer ≡ Ok u.answer → p ≡ after_turn u s t r iface hw k.now
         → PolledTo s t r iface up hw buf k p buf'
     unfolding poll_on
     poll_on_lem source u p buf' o f w n g =
         let same : u ≡ turn_of s.discovery (sender_in up t) buf k =
-        w.is ∙ ap (λ (z : Source). turn_of s.discovery (sender_of up z) buf k) f in
+        w.is ∙ ap (λ (z : Option Ipv6Addr). turn_of s.discovery (sender_of up z) buf k) f in
         let left : buf' ≡ buffer_of s.discovery (sender_in up t) hw buf k =
-        w.leaves ∙ ap (λ (z : Source). buffer_of s.discovery (sender_of up z) hw buf k) f in
+        w.leaves ∙ ap (λ (z : Option Ipv6Addr). buffer_of s.discovery (sender_of up z) hw buf k) f in
         fine p buf'
-        (on_yes s.on (poll_on s t r iface up hw buf k) (polled s t r k Off) p o (g ∙ ap (λ (z : Turn). after_turn z s t r iface hw k.now) same))
+        (on_yes s.on (poll_on s t r iface up hw buf k) (polled s t r k (Ok Off)) p o (g ∙ ap (λ (z : Turn). after_turn z s t r iface hw k.now) same))
         (ap poll_number n ∙ w.number)
         (on_yes s.on (sent_of s.discovery (sender_in up t) hw buf k) [] (poll_sent p.polled.answer buf') o
-        (ap (λ (x : PollAnswer). poll_sent x buf') n ∙ (w.sends ∙ ap (λ (z : Source). sent_of s.discovery (sender_of up z) hw buf k) f)))
+        (ap (λ (x : Result PollAnswer Refusal). poll_sent x buf') n ∙ (w.sends ∙ ap (λ (z : Option Ipv6Addr). sent_of s.discovery (sender_of up z) hw buf k) f)))
         (on_yes s.on (buffer_of s.discovery (sender_in up t) hw buf k) buf buf' o left)

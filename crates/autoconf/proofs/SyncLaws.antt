@@ -1,15 +1,15 @@
 -- Laws of the sync.
 use Prim.Native.Nat.{ℕ, ◌+◌, ◌<◌, ◌≤◌, min}
 use borrow.Author.Tests.{lt-ltb, le-ltb}
-use lib.ListN.{length, take, get_or, set}
+use lib.ListN.{length, take, drop, get_or, set, drop_of_length-le}
 use mathlib.Core.Bool.{Bool, true, false}
 use mathlib.Core.List.{List, [], ◌∷◌}
-use mathlib.Core.Path.{◌≡◌, refl, ap, ap₂, sym, ◌∙◌}
+use mathlib.Core.Path.{◌≡◌, ap, sym, ◌∙◌}
 use native.Mathlib.Omega.{arith}
 use Rattle.iface.proofs.Addresses.{addrs_made}
 use Rattle.iface.proofs.Routes.{routes_made}
 use Rattle.iface.specs.AddressRules.{addrs_of, with_addrs, no_addr, is_addr, is_from_slaac, slaac_addr, refreshed, put_addr, drop_addr}
-use Rattle.table.specs.Table.{if_room, filled, at_first_is}
+use Rattle.table.specs.Table.{if_room, at_first_is, first_from, fold_over}
 use Rattle.iface.specs.RouteRules.{routes_of, with_routes, is_installed, slaac_route, extended, put_route, drop_route}
 use Rattle.iface.specs.declared.addr.IfaceAddr.{IfaceAddr}
 use Rattle.iface.specs.declared.addr.IfaceAddrs.{IfaceAddrs}
@@ -19,7 +19,10 @@ use Rattle.iface.specs.declared.route.Routes.{Routes}
 use Rattle.slaac.specs.declared.Prefix.{Prefix}
 use Rattle.slaac.specs.declared.Router.{Router}
 use Rattle.autoconf.specs.SyncRules.{preferred_of, sync_formed, sync_prefix, sync_router}
-use Rattle.table.proofs.Laws.{Made, take_count, counted, Finding, find_next, found_over, found_stays, absent_end, absent_stays}
+use Rattle.table.proofs.Laws.{Made, Finding, counted, take_count, found_over, found_stays, absent_end, absent_stays}
+use Rattle.table.specs.Calls.{place_of}
+use Rattle.std.proofs.Common.{Option, Some, None}
+use Rattle.slaac.proofs.SlotLaws.{placed, unplaced, sought, passes}
 use Rattle.time.specs.ClockRules.{is_after}
 use Rattle.time.specs.declared.Expiry.TheVariants.{At}
 use Rattle.time.specs.declared.Instant.{Instant}
@@ -33,58 +36,50 @@ use Rattle.wire.specs.declared.ipv6.Ipv6Cidr.{Ipv6Cidr}
 abbrev pub Put : {A : Type 0} → (A → Bool) → (A → List A) → A → List A → ℕ → List A → ℕ → Type 0
 Put test f x s k t m = Made s (at_first_is test f (if_room 8 (take k s) x) (take k s)) t m
 
--- The loop that looks for the entry in the table that is built up: `s₀` and `n` are the slots and the count as it begins, and the count, which
--- may be above the size, has been cut.
-pub record Putting {A : Type 0} (test : A → Bool) (f : A → List A) (x : A) (s₀ : List A) (n : ℕ) (s : List A) (m j : ℕ) : Type 0 where
-  pub same : s ≡ s₀
-  pub count : m ≡ n
-  pub find : Finding 8 test f (if_room 8 (take n s) x) s n n j
+-- The answer of the search in it: `k` is the count, which may be above the size, after it has been cut
+module _ {A : Type 0} (d : A) (test : A → Bool) (f : A → List A) (x : A) (s : List A) (n k : ℕ) (r : Option ℕ) (full : length s ≡ 8) (e : k ≡ min n 8)
+    (p : r ≡ place_of test (take k s)) where
+  abbrev new : List A
+  new = if_room 8 (take n s) x
 
-module _ {A : Type 0} (d : A) {test : A → Bool} {f : A → List A} {x : A} {s₀ : List A} {n : ℕ} {s : List A} {m j : ℕ}
-    (inv : Putting test f x s₀ n s m j) where
-  pub put_next : j < n → test (get_or s j d) ≡ false → Putting test f x s₀ n s m (j + 1)
-  put_next h g = record { same = inv.same; count = inv.count; find = find_next d inv.find h g }
+  module _ (i : ℕ) (h : r ≡ Some i) where
+    at : (i ≡ first_from test 0 (take k s)) × (i < k)
+    at = placed test s k r p i h
 
-  module _ (k : ℕ) (e : n ≡ min k 8) where
-    entries : take n s ≡ take k s₀
-    entries =
-        let full : length s₀ ≡ 8 = ap length (sym inv.same) ∙ inv.find.full in
-        ap (take n) inv.same ∙ take_count s₀ k n (counted s₀ k 8 n full e)
+    inv : Finding 8 test f new s n k i
+    inv = sought 8 test s n k i full e at.0 f new
 
-    -- the same of the table before the cut, whose count is `k`
-    before : (t : List A) (c c' : ℕ) → c ≡ c' → Put test f x s n t c' → Put test f x s₀ k t c
-    before t c c' p w =
-        record {
-          slots = w.slots ∙ ap₂ (λ (a es : List A). filled a (at_first_is test f (if_room 8 es x) es)) inv.same entries;
-          count = p ∙ (w.count ∙ ap (λ (es : List A). length (at_first_is test f (if_room 8 es x) es)) entries);
-        }
+    here : test (get_or s i d) ≡ true
+    here = passes 8 test s n k i full e at.0 d at.1
 
-    pub put_over_lem : j < n → test (get_or s j d) ≡ true → (y : A) → f (get_or s j d) ≡ y ∷ [] → Put test f x s₀ k (set s j y) m
-    put_over_lem h g y p = before _ m n inv.count (found_over d inv.find h g y p)
+    pub put_over_lem : (y : A) → f (get_or s i d) ≡ y ∷ [] → Put test f x s n (set s i y) k
+    put_over_lem y q = found_over d inv at.1 here y q
 
-    pub put_stays : j < n → test (get_or s j d) ≡ true → f (get_or s j d) ≡ get_or s j d ∷ [] → Put test f x s₀ k s m
-    put_stays h g p = before s m n inv.count (found_stays d inv.find h g p)
+    pub put_stays : f (get_or s i d) ≡ get_or s i d ∷ [] → Put test f x s n s k
+    put_stays q = found_stays d inv at.1 here q
 
-    pub put_end : n ≤ j → n < 8 → Put test f x s₀ k (set s n x) (n + 1)
-    put_end h l =
-        let room : if_room 8 (take n s) x ≡ x ∷ [] = simp (lt-ltb (length (take n s)) 8 (omega (arith, inv.find.count))) in
-        before _ (n + 1) (n + 1) refl (absent_end d inv.find h x l room)
+  module _ (h : r ≡ None) where
+    missed : Finding 8 test f new s n k k
+    missed = sought 8 test s n k k full e (unplaced test s k r p n (rw full e) h) f new
 
-    pub put_none : n ≤ j → 8 ≤ n → Put test f x s₀ k s m
-    put_none h l =
-        let none : if_room 8 (take n s) x ≡ [] = simp (le-ltb (length (take n s)) 8 (omega (arith, inv.find.count))) in
-        before s m n inv.count (absent_stays d inv.find h none)
+    past : k ≤ k
+    past = omega arith
+
+    pub put_end : k < 8 → Put test f x s n (set s k x) (k + 1)
+    put_end l = absent_end d missed past x l (simp (lt-ltb (length (take n s)) 8 (omega (arith, missed.count))))
+
+    pub put_none : 8 ≤ k → Put test f x s n s k
+    put_none l = absent_stays d missed past (simp (le-ltb (length (take n s)) 8 (omega (arith, missed.count))))
 
 -- Of the addresses: one that SLAAC installed takes the new preferred time, the application's stays
-module _ {a : Ipv6Cidr} {q : Preferred} {s₀ : List IfaceAddr} {n : ℕ} {s : List IfaceAddr} {m j : ℕ}
-    (inv : Putting (is_addr a) (refreshed q) (slaac_addr a q) s₀ n s m j) (k : ℕ) (e : n ≡ min k 8) (h : j < n)
-    (g : is_addr a (get_or s j no_addr) ≡ true) where
-  pub put_refreshed : is_from_slaac (get_or s j no_addr) ≡ true
-      → Put (is_addr a) (refreshed q) (slaac_addr a q) s₀ k (set s j (slaac_addr (get_or s j no_addr).cidr q)) m
-  put_refreshed o = put_over_lem no_addr inv k e h g _ (simp o)
+module _ (a : Ipv6Cidr) (q : Preferred) (s : List IfaceAddr) (n k : ℕ) (r : Option ℕ) (full : length s ≡ 8) (e : k ≡ min n 8)
+    (p : r ≡ place_of (is_addr a) (take k s)) (i : ℕ) (h : r ≡ Some i) where
+  pub put_refreshed : is_from_slaac (get_or s i no_addr) ≡ true
+      → Put (is_addr a) (refreshed q) (slaac_addr a q) s n (set s i (slaac_addr (get_or s i no_addr).cidr q)) k
+  put_refreshed o = put_over_lem no_addr (is_addr a) (refreshed q) (slaac_addr a q) s n k r full e p i h _ (simp o)
 
-  pub put_spared : is_from_slaac (get_or s j no_addr) ≡ false → Put (is_addr a) (refreshed q) (slaac_addr a q) s₀ k s m
-  put_spared o = put_stays no_addr inv k e h g (simp o)
+  pub put_spared : is_from_slaac (get_or s i no_addr) ≡ false → Put (is_addr a) (refreshed q) (slaac_addr a q) s n s k
+  put_spared o = put_stays no_addr (is_addr a) (refreshed q) (slaac_addr a q) s n k r full e p i h (simp o)
 
 module _ (hw : HardwareAddress) (now : Instant) (t : IfaceAddrs) (p : Prefix) where
   pub sync_nothing : formed_of hw p.cidr ≡ Nothing → t ≡ sync_prefix hw now t p
@@ -119,3 +114,13 @@ module _ (iface : ℕ) (now : Instant) (t : Routes) (p : Router) where
       → r ≡ sync_router iface now t p
   unfolding sync_router
   route_drop r v g = simp v g
+
+-- the loop over the first k slots: those from `i` on are still to come
+pub record Stepping {A B : Type 0} (step : B → A → B) (b₀ : B) (es : List A) (i : ℕ) (b : B) : Type 0 where
+  pub same : fold_over step b (drop i es) ≡ fold_over step b₀ es
+
+module _ {A B : Type 0} (d : A) {step : B → A → B} {b₀ : B} {es : List A} {i : ℕ} {b : B} (inv : Stepping step b₀ es i b) where
+  pub stepped : (s : List A) (n size k : ℕ) → es ≡ take k s → length s ≡ size → k ≡ min n size → length es ≤ i → b ≡ fold_over step b₀ (take n s)
+  stepped s n size k e full c h =
+      let a : fold_over step b (drop i es) ≡ b = simp (drop_of_length-le es h) in
+      sym a ∙ (inv.same ∙ ap (fold_over step b₀) (e ∙ take_count s n k (counted s n size k full c)))

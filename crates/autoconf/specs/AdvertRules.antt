@@ -1,11 +1,10 @@
 -- Document 01, "Advertisement": its five steps. Assumes nothing.
-use Rattle.std.specs.Prelude.{ℕ, ◌-◌, ◌≡◌, cond, not, List, [], ◌∷◌, length, drop}
+use Rattle.std.specs.Prelude.{ℕ, ◌-◌, ◌≡◌, cond, not, List, [], ◌∷◌, length, drop, Result, Ok, Err, Option, Some, None}
 use Rattle.table.specs.Table.{fold_over}
 use Rattle.time.specs.declared.Instant.{Instant}
 use Rattle.time.specs.TimeRules.{seconds_of}
 use Rattle.wire.specs.declared.ethernet.HardwareAddress.{HardwareAddress}
 use Rattle.wire.specs.declared.ipv6.Ipv6Addr.{Ipv6Addr}
-use Rattle.wire.specs.declared.error.Check.{Check}
 use Rattle.wire.specs.declared.error.Refusal.{Refusal}
 use Rattle.wire.specs.declared.error.Refusal.TheVariants.{NotLinkLocal}
 use Rattle.wire.specs.Refusals.{Row, first_refusal, check_number, decided, time_check}
@@ -14,7 +13,6 @@ use Rattle.wire.specs.Rfc4291.{is_link_local}
 use Rattle.ndisc.specs.declared.ndiscoption.NdiscOption.{NdiscOption}
 use Rattle.ndisc.specs.declared.ndiscoption.NdiscOption.TheVariants.{SourceLinkLayerAddr, TargetLinkLayerAddr, PrefixInformation as Prefix, RedirectedHeader, Mtu, Unknown}
 use Rattle.ndisc.specs.declared.ndiscoption.PrefixInformation.{PrefixInformation}
-use Rattle.ndisc.specs.declared.ndisc.Advert.{Advert}
 use Rattle.ndisc.specs.declared.ndisc.RouterAdvert.{RouterAdvert}
 use Rattle.ndisc.specs.Answers.{advert_number as headerNumber, advert_headers}
 use Rattle.ndisc.specs.OptionWalk.{options_of, malformed_option}
@@ -24,11 +22,9 @@ use Rattle.neighbor.specs.NeighborRules.{lasting}
 use Rattle.neighbor.specs.CacheCalls.{key, put_in, unless}
 use Rattle.slaac.specs.declared.Slaac.{Slaac}
 use Rattle.slaac.specs.LearnedRules.{process_prefix_is, process_router_is, store_flags_is}
-use Rattle.autoconf.specs.declared.LinkLayerAddr.{LinkLayerAddr}
-use Rattle.autoconf.specs.declared.LinkLayerAddr.TheVariants.{Nothing, Is}
 use Rattle.autoconf.specs.declared.Taught.{Taught}
 use Rattle.autoconf.specs.declared.AdvertAnswer.{AdvertAnswer}
-use Rattle.autoconf.specs.declared.AdvertAnswer.TheVariants.{Refused, Off, Done}
+use Rattle.autoconf.specs.declared.AdvertAnswer.TheVariants.{Off, Done}
 use Rattle.autoconf.specs.declared.Advertised.{Advertised}
 use Rattle.autoconf.specs.Answers.{advert_number, number_around, lladdr_number, lladdr_given}
 
@@ -40,11 +36,11 @@ not_link_local a = record { refusal = NotLinkLocal; fails = not (is_link_local a
 abbrev pub message_rows : Ipv6Addr → List ℕ → List Row
 message_rows source msg = not_advertisement msg ∷ not_link_local source ∷ malformed_option msg 16 ∷ []
 
-abbrev pub message_check : Ipv6Addr → List ℕ → Check
+abbrev pub message_check : Ipv6Addr → List ℕ → Result (Unit {0}) Refusal
 message_check source msg = first_refusal (message_rows source msg)
 
 -- the header of a message that passes
-pub record CheckedTo (source : Ipv6Addr) (msg : List ℕ) (r : Advert) : Type 0 where
+pub record CheckedTo (source : Ipv6Addr) (msg : List ℕ) (r : Result RouterAdvert Refusal) : Type 0 where
   pub is : r ≡ advert_by (message_check source msg) msg
   pub number : headerNumber r ≡ check_number (message_check source msg)
   pub header : advert_headers r ≡ unless (message_check source msg) (router_advert_at msg ∷ [])
@@ -88,12 +84,12 @@ source_options (RedirectedHeader ∷ os) = source_options os
 source_options (Mtu n ∷ os) = source_options os
 source_options (Unknown n ∷ os) = source_options os
 
-abbrev pub last_in : LinkLayerAddr → List HardwareAddress → LinkLayerAddr
+abbrev pub last_in : Option HardwareAddress → List HardwareAddress → Option HardwareAddress
 last_in l [] = l
-last_in l (h ∷ hs) = last_in (Is h) hs
+last_in l (h ∷ hs) = last_in (Some h) hs
 
-unfoldable pub last_source : List NdiscOption → LinkLayerAddr
-last_source os = last_in Nothing (source_options os)
+unfoldable pub last_source : List NdiscOption → Option HardwareAddress
+last_source os = last_in None (source_options os)
 
 -- what the options teach, for both steps
 abbrev pub taught_by : Instant → Slaac → List NdiscOption → Taught
@@ -112,13 +108,13 @@ abbrev pub filled_by : NeighborCache → ℕ → Ipv6Addr → HardwareAddress �
 filled_by c iface source h now = put_in c (key iface source) (lasting h now)
 
 -- "if unicast"
-abbrev pub step5 : NeighborCache → ℕ → Ipv6Addr → LinkLayerAddr → Instant → NeighborCache
-step5 c iface source Nothing now = c
-step5 c iface source (Is h) now = cond (is_unicast_hardware h) (filled_by c iface source h now) c
+abbrev pub step5 : NeighborCache → ℕ → Ipv6Addr → Option HardwareAddress → Instant → NeighborCache
+step5 c iface source None now = c
+step5 c iface source (Some h) now = cond (is_unicast_hardware h) (filled_by c iface source h now) c
 
 -- The call
 
-abbrev pub advertised : Slaac → NeighborCache → AdvertAnswer → Advertised
+abbrev pub advertised : Slaac → NeighborCache → Result AdvertAnswer Refusal → Advertised
 advertised s c a = record { slaac = s; cache = c; answer = a }
 
 abbrev pub steps2to4 : Slaac → Ipv6Addr → List ℕ → Instant → Slaac
@@ -126,16 +122,16 @@ steps2to4 s source msg now =
     step4 (step3 now (step2 now s (options_in msg)) source (router_advert_at msg)) (router_advert_at msg)
 
 abbrev pub not_heard : Slaac → NeighborCache → Refusal → Advertised
-not_heard s c why = advertised s c (Refused why)
+not_heard s c why = advertised s c (Err why)
 
-abbrev pub message_by : Check → Slaac → NeighborCache → ℕ → Ipv6Addr → List ℕ → Instant → Advertised
+abbrev pub message_by : Result (Unit {0}) Refusal → Slaac → NeighborCache → ℕ → Ipv6Addr → List ℕ → Instant → Advertised
 message_by check s c iface source msg now =
-    decided check (not_heard s c) (advertised (steps2to4 s source msg now) (step5 c iface source (last_source (options_in msg)) now) Done)
+    decided check (not_heard s c) (advertised (steps2to4 s source msg now) (step5 c iface source (last_source (options_in msg)) now) (Ok Done))
 
 -- "With SLAAC off this call .. answer Off, after 3 and 7 and before 5, and do nothing."
-abbrev pub call_by : Check → Slaac → NeighborCache → ℕ → Ipv6Addr → List ℕ → Instant → Advertised
+abbrev pub call_by : Result (Unit {0}) Refusal → Slaac → NeighborCache → ℕ → Ipv6Addr → List ℕ → Instant → Advertised
 call_by check s c iface source msg now =
-    decided check (not_heard s c) (cond s.on (message_by (message_check source msg) s c iface source msg now) (advertised s c Off))
+    decided check (not_heard s c) (cond s.on (message_by (message_check source msg) s c iface source msg now) (advertised s c (Ok Off)))
 
 pub record AdvertisedTo (s : Slaac) (c : NeighborCache) (iface : ℕ) (source : Ipv6Addr) (msg : List ℕ) (now : Instant) (r : Advertised) : Type 0 where
   pub is : r ≡ call_by (time_check now iface) s c iface source msg now

@@ -1,7 +1,6 @@
 -- Document 01, "Poll": turning SLAAC off, with the handles of request 2026-10. Assumes nothing.
-use Rattle.std.specs.Prelude.{ℕ, ◌≡◌, Bool, false, cond, []}
+use Rattle.std.specs.Prelude.{ℕ, ◌≡◌, Bool, false, cond, [], Result, Ok, Err}
 use Rattle.table.specs.Table.{kept}
-use Rattle.wire.specs.declared.error.Check.{Check}
 use Rattle.wire.specs.declared.error.Refusal.{Refusal}
 use Rattle.wire.specs.Refusals.{check_number, outcome_number, decided, iface_check}
 use Rattle.neighbor.specs.declared.NeighborCache.{NeighborCache}
@@ -15,12 +14,10 @@ use Rattle.iface.specs.declared.route.Routes.{Routes}
 use Rattle.iface.specs.AddressRules.{clear_addrs}
 use Rattle.iface.specs.RouteRules.{routes_of, with_routes, clear_routes}
 use Rattle.slaac.specs.declared.Slaac.{Slaac}
-use Rattle.wire.specs.declared.error.Outcome.{Outcome}
-use Rattle.wire.specs.declared.error.Outcome.TheVariants.{Refused, Done}
 use Rattle.slaac.specs.DiscoveryRules.{fresh}
 use Rattle.autoconf.specs.declared.TurnedOff.{TurnedOff}
 
-abbrev pub turned_off : Slaac → IfaceAddrs → Routes → NeighborCache → PendingQueue → Handles → Outcome → TurnedOff
+abbrev pub turned_off : Slaac → IfaceAddrs → Routes → NeighborCache → PendingQueue → Handles → Result (Unit {0}) Refusal → TurnedOff
 turned_off s t r c q hs o = record { slaac = s; addrs = t; routes = r; cache = c; queue = q; handles = hs; outcome = o }
 
 -- "if an address went, the interface's neighbours and waiting packets are cleared"
@@ -38,18 +35,18 @@ cleared_handles went q iface = handles_of (cond went (dropped_handles (on_iface 
 unfoldable pub off_now : IfaceAddrs → Routes → NeighborCache → PendingQueue → ℕ → TurnedOff
 off_now t r c q iface =
     turned_off (fresh false) (clear_addrs t).addrs (with_routes r (clear_routes iface (routes_of r))) (cleared_cache (clear_addrs t).any c iface)
-    (cleared_queue (clear_addrs t).any q iface) (cleared_handles (clear_addrs t).any q iface) Done
+    (cleared_queue (clear_addrs t).any q iface) (cleared_handles (clear_addrs t).any q iface) (Ok tt)
 
 -- everything as it came, and no handle
-abbrev pub left_alone : Slaac → IfaceAddrs → Routes → NeighborCache → PendingQueue → Outcome → TurnedOff
+abbrev pub left_alone : Slaac → IfaceAddrs → Routes → NeighborCache → PendingQueue → Result (Unit {0}) Refusal → TurnedOff
 left_alone s t r c q o = turned_off s t r c q (handles_of []) o
 
 abbrev pub not_turned_off : Slaac → IfaceAddrs → Routes → NeighborCache → PendingQueue → Refusal → TurnedOff
-not_turned_off s t r c q why = left_alone s t r c q (Refused why)
+not_turned_off s t r c q why = left_alone s t r c q (Err why)
 
 -- what is off stays as it is
-abbrev pub off_by : Check → Slaac → IfaceAddrs → Routes → NeighborCache → PendingQueue → ℕ → TurnedOff
-off_by check s t r c q iface = decided check (not_turned_off s t r c q) (cond s.on (off_now t r c q iface) (left_alone s t r c q Done))
+abbrev pub off_by : Result (Unit {0}) Refusal → Slaac → IfaceAddrs → Routes → NeighborCache → PendingQueue → ℕ → TurnedOff
+off_by check s t r c q iface = decided check (not_turned_off s t r c q) (cond s.on (off_now t r c q iface) (left_alone s t r c q (Ok tt)))
 
 pub record TurnedOffTo (s : Slaac) (t : IfaceAddrs) (r : Routes) (c : NeighborCache) (q : PendingQueue) (iface : ℕ) (x : TurnedOff) : Type 0 where
   pub is : x ≡ off_by (iface_check iface) s t r c q iface

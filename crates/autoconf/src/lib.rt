@@ -4,34 +4,24 @@
 
 mod sync;
 
-ghost use Rattle.std.specs.Prelude.{◌≡◌, []};
-ghost use Rattle.pending.specs.QueueCalls.{handles_of};
 ghost use Rattle.autoconf.specs.AdvertRules.{CheckedTo, options_in, TaughtTo, AdvertisedTo};
 ghost use Rattle.autoconf.specs.PollRules.{sender_of, TurnTo, PolledTo};
 ghost use Rattle.autoconf.specs.OffRules.{TurnedOffTo};
 
-use iface::addr::{IfaceAddrs, Source};
+use iface::addr::IfaceAddrs;
 use iface::route::Routes;
-use ndisc::ndisc::{Advert, ROUTER_ADVERT_LEN, Solicited};
-use ndisc::ndiscoption::{NdiscOption, Next, Walk};
+use ndisc::ndisc::{ROUTER_ADVERT_LEN, RouterAdvert, Solicited};
+use ndisc::ndiscoption::{NdiscOption, Next};
 use neighbor::NeighborCache;
-use pending::{Handles, PENDING_QUEUE_COUNT, PendingQueue};
+use pending::{Handles, PendingQueue};
 use slaac::{Discovery, Slaac};
 use time::{Clock, Duration, Instant};
-use wire::error::{Check, Outcome, Refusal};
+use wire::error::Refusal;
 use wire::ethernet::HardwareAddress;
 use wire::ipv6::Ipv6Addr;
 
-// The source link-layer address of an advertisement.
-#[derive(Clone, Copy)]
-pub enum LinkLayerAddr {
-    Nothing,
-    Is(HardwareAddress),
-}
-
 #[derive(Clone, Copy)]
 pub enum AdvertAnswer {
-    Refused(Refusal),
     Off,
     Done,
 }
@@ -41,12 +31,11 @@ pub enum AdvertAnswer {
 pub struct Advertised {
     pub slaac: Slaac,
     pub cache: NeighborCache,
-    pub answer: AdvertAnswer,
+    pub answer: Result<AdvertAnswer, Refusal>,
 }
 
 #[derive(Clone, Copy)]
 pub enum PollAnswer {
-    Refused(Refusal),
     Off,
     // Nothing to send.
     Quiet,
@@ -62,7 +51,7 @@ pub struct Polled {
     pub slaac: Slaac,
     pub addrs: IfaceAddrs,
     pub routes: Routes,
-    pub answer: PollAnswer,
+    pub answer: Result<PollAnswer, Refusal>,
 }
 
 // The same with the clock.
@@ -89,66 +78,49 @@ pub struct TurnedOff {
     pub cache: NeighborCache,
     pub queue: PendingQueue,
     pub handles: Handles,
-    pub outcome: Outcome,
+    pub outcome: Result<(), Refusal>,
 }
 
 // What the options of an advertisement teach.
 #[derive(Clone, Copy)]
 pub struct Taught {
     pub slaac: Slaac,
-    pub lladdr: LinkLayerAddr,
+    pub lladdr: Option<HardwareAddress>,
 }
 
 // The checks of an advertisement, before anything changes: its header, its source, and every option. The walk takes each checked
 // option apart, and the first that is refused refuses the message.
-fn check_advertisement(source: Ipv6Addr, msg: &[u8]) -> Advert
+fn check_advertisement(source: Ipv6Addr, msg: &[u8]) -> Result<RouterAdvert, Refusal>
     ensures { CheckedTo source msg.now result }
 {
-    match ndisc::ndisc::router_advert(msg) {
-        Advert::Refused(why) => Advert::Refused(why),
-        Advert::Header(header) => {
-            if source.is_link_local() {
-                match ndisc::ndiscoption::check_options(msg, ROUTER_ADVERT_LEN) {
-                    Walk::Clean => Advert::Header(header),
-                    Walk::MalformedAt(_) => Advert::Refused(Refusal::Malformed),
-                }
-            } else {
-                Advert::Refused(Refusal::NotLinkLocal)
-            }
-        }
+    let header = ndisc::ndisc::router_advert(msg)?;
+    if !source.is_link_local() {
+        return Err(Refusal::NotLinkLocal);
+    }
+    match ndisc::ndiscoption::check_options(msg, ROUTER_ADVERT_LEN) {
+        None => Ok(header),
+        Some(_) => Err(Refusal::Malformed),
     }
 }
 
 // Second pass over the options: every prefix information option is fed to SLAAC, and the last source link-layer address
 // is picked up.
-fn learn_options(slaac: Slaac, msg: &[u8], timestamp: Instant) -> Taught
+fn learn_options(mut slaac: Slaac, msg: &[u8], timestamp: Instant) -> Taught
     ensures { TaughtTo timestamp slaac (options_in msg.now) result }
 {
-    let mut learned = slaac;
-    let mut lladdr = LinkLayerAddr::Nothing;
+    let mut lladdr = None;
     let mut at = ROUTER_ADVERT_LEN;
-    loop {
-        let Next::Option { option, next } = ndisc::ndiscoption::next_option(msg, at) else {
-            break;
-        };
+    while let Next::Option { option, next } = ndisc::ndiscoption::next_option(msg, at) {
         at = next;
         match option {
-            NdiscOption::SourceLinkLayerAddr(source) => {
-                lladdr = LinkLayerAddr::Is(source);
-            }
-            NdiscOption::TargetLinkLayerAddr(_) => {}
+            NdiscOption::SourceLinkLayerAddr(source) => lladdr = Some(source),
             NdiscOption::PrefixInformation(prefix) => {
-                learned = learned.process_prefix(prefix, timestamp);
+                slaac = slaac.process_prefix(prefix, timestamp);
             }
-            NdiscOption::RedirectedHeader => {}
-            NdiscOption::Mtu(_) => {}
-            NdiscOption::Unknown(_) => {}
+            _ => {}
         }
     }
-    Taught {
-        slaac: learned,
-        lladdr: lladdr,
-    }
+    Taught { slaac, lladdr }
 }
 
 // A router advertisement arrives.
@@ -162,55 +134,46 @@ pub fn process_advertisement(
 ) -> Advertised
     ensures { AdvertisedTo slaac cache iface source msg.now timestamp result }
 {
-    if let Check::Refused(why) = wire::error::check_time(timestamp, iface) {
+    if let Err(why) = wire::error::check_time(timestamp, iface) {
         return Advertised {
-            slaac: slaac,
-            cache: cache,
-            answer: AdvertAnswer::Refused(why),
+            slaac,
+            cache,
+            answer: Err(why),
         };
     }
     if !slaac.on {
         return Advertised {
-            slaac: slaac,
-            cache: cache,
-            answer: AdvertAnswer::Off,
+            slaac,
+            cache,
+            answer: Ok(AdvertAnswer::Off),
         };
     }
-    match check_advertisement(source, msg) {
-        Advert::Refused(why) => Advertised {
-            slaac: slaac,
-            cache: cache,
-            answer: AdvertAnswer::Refused(why),
-        },
-        Advert::Header(header) => {
-            let taught = learn_options(slaac, msg, timestamp);
-            let with_prefixes = taught.slaac;
-            let router_lifetime = Duration::from_secs(header.router_lifetime as u32);
-            let with_router = with_prefixes.process_router(source, router_lifetime, timestamp);
-            let learned = with_router.store_flags(header.managed, header.other_config);
-            let last_source = taught.lladdr;
-            let LinkLayerAddr::Is(lladdr) = last_source else {
-                return Advertised {
-                    slaac: learned,
-                    cache: cache,
-                    answer: AdvertAnswer::Done,
-                };
+    let header = match check_advertisement(source, msg) {
+        Err(why) => {
+            return Advertised {
+                slaac,
+                cache,
+                answer: Err(why),
             };
-            if lladdr.is_unicast() {
-                let change = cache.fill(iface, source, lladdr, timestamp);
-                let filled = change.cache;
-                return Advertised {
-                    slaac: learned,
-                    cache: filled,
-                    answer: AdvertAnswer::Done,
-                };
-            }
-            Advertised {
-                slaac: learned,
-                cache: cache,
-                answer: AdvertAnswer::Done,
-            }
         }
+        Ok(header) => header,
+    };
+    let taught = learn_options(slaac, msg, timestamp);
+    let router_lifetime = Duration::from_secs(u32::from(header.router_lifetime));
+    let learned = taught
+        .slaac
+        .process_router(source, router_lifetime, timestamp)
+        .store_flags(header.managed, header.other_config);
+    let cache = match taught.lladdr {
+        Some(lladdr) if lladdr.is_unicast() => {
+            cache.fill(iface, source, lladdr, timestamp).cache
+        }
+        _ => cache,
+    };
+    Advertised {
+        slaac: learned,
+        cache,
+        answer: Ok(AdvertAnswer::Done),
     }
 }
 
@@ -219,53 +182,43 @@ pub fn process_advertisement(
 fn ndisc_rs_egress(
     discovery: Discovery,
     up: bool,
-    source: Source,
+    source: Option<Ipv6Addr>,
     hardware_addr: HardwareAddress,
     buf: &mut [u8],
     clock: Clock,
 ) -> Turn
     ensures { TurnTo discovery (sender_of up source) hardware_addr buf.old clock result buf.new }
 {
+    let quiet = Turn {
+        discovery,
+        clock,
+        answer: PollAnswer::Quiet,
+    };
     if !up {
-        return Turn {
-            discovery: discovery,
-            clock: clock,
-            answer: PollAnswer::Quiet,
-        };
+        return quiet;
     }
-    let Source::From(src_addr) = source else {
-        return Turn {
-            discovery: discovery,
-            clock: clock,
-            answer: PollAnswer::Quiet,
-        };
+    let Some(src_addr) = source else {
+        return quiet;
     };
     let solicitation = discovery.solicit(clock);
-    let next_discovery = solicitation.discovery;
-    let next_clock = solicitation.clock;
-    if solicitation.due {
-        // Too short a buffer uses it up as well: the next is due when its time comes.
-        match ndisc::ndisc::write_solicit(buf, src_addr, hardware_addr) {
-            Solicited::NoRoom => {
-                return Turn {
-                    discovery: next_discovery,
-                    clock: next_clock,
-                    answer: PollAnswer::NoRoom,
-                };
-            }
-            Solicited::Written => {
-                return Turn {
-                    discovery: next_discovery,
-                    clock: next_clock,
-                    answer: PollAnswer::Solicited,
-                };
-            }
-        }
-    }
-    Turn {
-        discovery: next_discovery,
-        clock: next_clock,
+    let turn = Turn {
+        discovery: solicitation.discovery,
+        clock: solicitation.clock,
         answer: PollAnswer::Quiet,
+    };
+    if !solicitation.due {
+        return turn;
+    }
+    // Too short a buffer uses it up as well: the next is due when its time comes.
+    match ndisc::ndisc::write_solicit(buf, src_addr, hardware_addr) {
+        Solicited::NoRoom => Turn {
+            answer: PollAnswer::NoRoom,
+            ..turn
+        },
+        Solicited::Written => Turn {
+            answer: PollAnswer::Solicited,
+            ..turn
+        },
     }
 }
 
@@ -283,72 +236,55 @@ pub fn poll_at(
     ensures { PolledTo slaac addrs routes iface up hardware_addr buf.old clock result buf.new }
 {
     let timestamp = clock.now;
-    if let Check::Refused(why) = wire::error::check_time(timestamp, iface) {
+    if let Err(why) = wire::error::check_time(timestamp, iface) {
         return PolledAt {
-            clock: clock,
+            clock,
             polled: Polled {
-                slaac: slaac,
-                addrs: addrs,
-                routes: routes,
-                answer: PollAnswer::Refused(why),
+                slaac,
+                addrs,
+                routes,
+                answer: Err(why),
             },
         };
     }
     if !slaac.on {
         return PolledAt {
-            clock: clock,
+            clock,
             polled: Polled {
-                slaac: slaac,
-                addrs: addrs,
-                routes: routes,
-                answer: PollAnswer::Off,
+                slaac,
+                addrs,
+                routes,
+                answer: Ok(PollAnswer::Off),
             },
         };
     }
     let source = addrs.link_local_ipv6_address();
-    let discovery = slaac.discovery;
-    let turn = ndisc_rs_egress(discovery, up, source, hardware_addr, buf, clock);
-    let next_discovery = turn.discovery;
-    let turn_clock = turn.clock;
-    let answer = turn.answer;
-    let sync_due = slaac.is_sync_due(turn_clock);
-    let next_clock = sync_due.clock;
-    let mut solicited = slaac;
-    solicited.discovery = next_discovery;
+    let turn = ndisc_rs_egress(slaac.discovery, up, source, hardware_addr, buf, clock);
+    let sync_due = slaac.is_sync_due(turn.clock);
+    let solicited = Slaac {
+        discovery: turn.discovery,
+        ..slaac
+    };
     if sync_due.expired {
         // The neighbours are left alone: the advertisement that asked for this sync may just have filled one.
-        let synced_addrs = sync::sync_addrs(addrs, solicited, hardware_addr, timestamp);
-        let synced_routes = sync::sync_routes(routes, solicited, iface, timestamp);
-        let synced = solicited.update_slaac_state(timestamp);
         return PolledAt {
-            clock: next_clock,
+            clock: sync_due.clock,
             polled: Polled {
-                slaac: synced,
-                addrs: synced_addrs,
-                routes: synced_routes,
-                answer: answer,
+                slaac: solicited.update_slaac_state(timestamp),
+                addrs: sync::sync_addrs(addrs, solicited, hardware_addr, timestamp),
+                routes: sync::sync_routes(routes, solicited, iface, timestamp),
+                answer: Ok(turn.answer),
             },
         };
     }
     PolledAt {
-        clock: next_clock,
+        clock: sync_due.clock,
         polled: Polled {
             slaac: solicited,
-            addrs: addrs,
-            routes: routes,
-            answer: answer,
+            addrs,
+            routes,
+            answer: Ok(turn.answer),
         },
-    }
-}
-
-// Zeros, and a count of 0: no packet was dropped.
-fn no_handles() -> Handles
-    ensures { result ≡ handles_of [] }
-{
-    let slots = [0u32; PENDING_QUEUE_COUNT];
-    Handles {
-        slots: slots,
-        len: 0,
     }
 }
 
@@ -364,56 +300,39 @@ pub fn turn_off(
 ) -> TurnedOff
     ensures { TurnedOffTo slaac addrs routes cache queue iface result }
 {
-    let none = no_handles();
-    if let Check::Refused(why) = wire::error::check_iface(iface) {
+    let unchanged = TurnedOff {
+        slaac,
+        addrs,
+        routes,
+        cache,
+        queue,
+        handles: Handles::new(),
+        outcome: Ok(()),
+    };
+    if let Err(why) = wire::error::check_iface(iface) {
         return TurnedOff {
-            slaac: slaac,
-            addrs: addrs,
-            routes: routes,
-            cache: cache,
-            queue: queue,
-            handles: none,
-            outcome: Outcome::Refused(why),
+            outcome: Err(why),
+            ..unchanged
         };
     }
     if !slaac.on {
-        return TurnedOff {
-            slaac: slaac,
-            addrs: addrs,
-            routes: routes,
-            cache: cache,
-            queue: queue,
-            handles: none,
-            outcome: Outcome::Done,
-        };
+        return unchanged;
     }
-    let off = Slaac::off();
     let cleared = addrs.clear_slaac();
-    let kept_addrs = cleared.addrs;
-    let kept_routes = routes.clear_slaac(iface);
+    let off = TurnedOff {
+        slaac: Slaac::off(),
+        addrs: cleared.addrs,
+        routes: routes.clear_slaac(iface),
+        ..unchanged
+    };
     if cleared.any {
-        let change = cache.clear_iface(iface);
-        let kept_neighbors = change.cache;
         let purged = queue.purge_iface(iface);
-        let kept_packets = purged.queue;
-        let dropped = purged.handles;
         return TurnedOff {
-            slaac: off,
-            addrs: kept_addrs,
-            routes: kept_routes,
-            cache: kept_neighbors,
-            queue: kept_packets,
-            handles: dropped,
-            outcome: Outcome::Done,
+            cache: cache.clear_iface(iface).cache,
+            queue: purged.queue,
+            handles: purged.handles,
+            ..off
         };
     }
-    TurnedOff {
-        slaac: off,
-        addrs: kept_addrs,
-        routes: kept_routes,
-        cache: cache,
-        queue: queue,
-        handles: none,
-        outcome: Outcome::Done,
-    }
+    off
 }

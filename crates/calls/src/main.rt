@@ -2,22 +2,15 @@
 // written.
 #![tactic(auto)]
 
-use caller::Ended;
 use std::io::{Empty, Stdout};
 use streams::sink::{Sink, Target};
-
-// Standard error may be closed.
-fn tell(rt: &impl Eprint, ended: Ended) {
-    let _ = match ended {
-        Ended::Answered => Ok(()),
-        Ended::NotRead => eprintln!(rt; "calls: the input could not be read"),
-        Ended::NotWritten => eprintln!(rt; "calls: the output could not be written"),
-    };
-}
 
 fn main(rt: HostRuntime) {
     let mut input = rt.stdin();
     let mut output: Target<Stdout, Empty> = Target::Write(rt.stdout());
-    let ran = caller::run(&mut input, &mut output, Sink::new());
-    tell(&rt, ran.ended);
+    let mut sink = Sink::new();
+    if let Err(error) = caller::run(&mut input, &mut output, &mut sink) {
+        // Standard error may be closed.
+        let _ = eprintln!(rt; "calls: {error}");
+    }
 }

@@ -6,6 +6,9 @@ use mathlib.Core.Bool.{Bool, true, false, cond}
 use mathlib.Core.List.{List, [], ◌∷◌}
 use mathlib.Core.Path.{◌≡◌, refl, sym, ◌∙◌, subst}
 use native.Mathlib.Omega.{arith}
+use Rattle.std.specs.Prelude.{Result, Ok, Err, Option, Some, None}
+use Rattle.wire.specs.declared.error.Refusal.{Refusal}
+use Rattle.wire.specs.declared.ipv6.Ipv6Addr.{Ipv6Addr}
 use Rattle.claims.proofs.Clocks.{expiry_forward, due_forward, turn_forward, fine_time}
 use Rattle.claims.proofs.Keeps.{turn_cases, turn_in, poll_cases}
 use Rattle.claims.specs.Clocks.{Sweep, swept, swept_at, Poll, polled, polled_at}
@@ -16,8 +19,6 @@ use Rattle.autoconf.specs.declared.Polled.{Polled}
 use Rattle.autoconf.specs.declared.PolledAt.{PolledAt}
 use Rattle.autoconf.specs.declared.Turn.{Turn}
 use Rattle.iface.specs.declared.addr.IfaceAddrs.{IfaceAddrs}
-use Rattle.iface.specs.declared.addr.Source.TheVariants.{Nothing, From}
-use Rattle.iface.specs.declared.addr.Source.{Source}
 use Rattle.iface.specs.declared.route.Routes.{Routes}
 use Rattle.neighbor.specs.CacheCalls.{entries}
 use Rattle.neighbor.specs.NeighborRules.{Table}
@@ -44,24 +45,20 @@ use Rattle.time.proofs.Forward.{asking, asking_end}
 use Rattle.time.specs.ClockRules.{sooner, scheduled_of, asked_of, asked_end}
 use Rattle.time.specs.declared.Answer.{Answer}
 use Rattle.time.specs.declared.Clock.{Clock}
-use Rattle.time.specs.declared.Deadline.TheVariants.{None, At}
-use Rattle.time.specs.declared.Deadline.{Deadline}
 use Rattle.time.specs.declared.Expiry.TheVariants.{At as EndsAt, Forever}
 use Rattle.time.specs.declared.Expiry.{Expiry}
 use Rattle.time.specs.declared.Instant.{Instant}
 use Rattle.wire.specs.Refusals.{time_check}
-use Rattle.wire.specs.declared.error.Check.TheVariants.{Fine, Refused as Fails}
-use Rattle.wire.specs.declared.error.Check.{Check}
 use Rattle.wire.specs.declared.ethernet.HardwareAddress.{HardwareAddress}
 
 -- What joins a deadline
 
 module _ (now : Instant) where
-  sooner_ahead : (d : Deadline) (t : Instant) → now.0 < t.0 → Asleep d now → Asleep (sooner d t) now
+  sooner_ahead : (d : Option Instant) (t : Instant) → now.0 < t.0 → Asleep d now → Asleep (sooner d t) now
   sooner_ahead None t h a = omega arith
-  sooner_ahead (At e) t h a = go (ltb t.0 e.0)
+  sooner_ahead (Some e) t h a = go (ltb t.0 e.0)
     where
-      go : (x : Bool) → Asleep (cond x (At t) (At e)) now
+      go : (x : Bool) → Asleep (cond x (Some t) (Some e)) now
       go true = omega arith
       go false = a
 
@@ -127,11 +124,11 @@ module _ (now : Instant) where
         go true = a
         go false = sooner_ahead k.deadline (retry_at k) (subst (λ (n : Instant). n.0 < (retry_at k).0) same after_it) a
 
-    turn_ahead : (d : Discovery) (sender : Source) (buf : List ℕ) (k : Clock) → k.now ≡ now → Asleep k.deadline now
+    turn_ahead : (d : Discovery) (sender : Option Ipv6Addr) (buf : List ℕ) (k : Clock) → k.now ≡ now → Asleep k.deadline now
         → Asleep (turn_of d sender buf k).clock.deadline now
     unfolding turn_of solicitation
-    turn_ahead d Nothing buf k same a = a
-    turn_ahead d (From source) buf k same a = go (due d k).expired
+    turn_ahead d None buf k same a = a
+    turn_ahead d (Some source) buf k same a = go (due d k).expired
       where
         go : (b : Bool)
             → Asleep (cond {A = Solicitation} b (sent d (due d k).clock) (record { due = false; discovery = d; clock = (due d k).clock })).clock.deadline now
@@ -157,24 +154,24 @@ module _ (now : Instant) where
 
 -- The calls, by their checks
 
-swept_ahead : (x : Check) (c : NeighborCache) (k : Clock) (i : ℕ) → time_check k.now i ≡ x → Asleep k.deadline k.now
+swept_ahead : (x : Result (Unit {0}) Refusal) (c : NeighborCache) (k : Clock) (i : ℕ) → time_check k.now i ≡ x → Asleep k.deadline k.now
     → Asleep (sweep_by x c k i).clock.deadline k.now
 unfolding swept_in
-swept_ahead (Fails why) c k i e a = a
-swept_ahead Fine c k i e a = pass_ahead k.now (fine_time k.now i e) k (entries c) refl a
+swept_ahead (Err why) c k i e a = a
+swept_ahead (Ok tt) c k i e a = pass_ahead k.now (fine_time k.now i e) k (entries c) refl a
 
-sync_ahead : (now : Instant) (s : Slaac) (t : IfaceAddrs) (r : Routes) (i : ℕ) (hw : HardwareAddress) (at : Instant) (k : Clock) (w : PollAnswer) → k.now ≡ now
+sync_ahead : (now : Instant) (s : Slaac) (t : IfaceAddrs) (r : Routes) (i : ℕ) (hw : HardwareAddress) (at : Instant) (k : Clock) (w : Result PollAnswer Refusal) → k.now ≡ now
     → Asleep k.deadline now → Asleep (sync_turn s t r i hw at k w).clock.deadline now
 sync_ahead now s t r i hw at k w same a =
     turn_cases (λ q. Asleep q.clock.deadline now) s t r i hw at k w (λ e. sync_due_ahead now s k same a) (λ e. sync_due_ahead now s k same a)
 
-polled_ahead : (x : Check) (s : Slaac) (t : IfaceAddrs) (r : Routes) (i : ℕ) (up : Bool) (hw : HardwareAddress) (buf : List ℕ) (k : Clock)
+polled_ahead : (x : Result (Unit {0}) Refusal) (s : Slaac) (t : IfaceAddrs) (r : Routes) (i : ℕ) (up : Bool) (hw : HardwareAddress) (buf : List ℕ) (k : Clock)
     → time_check k.now i ≡ x → Asleep k.deadline k.now → Asleep (poll_by x s t r i up hw buf k).clock.deadline k.now
-polled_ahead (Fails why) s t r i up hw buf k e a = a
-polled_ahead Fine s t r i up hw buf k e a =
+polled_ahead (Err why) s t r i up hw buf k e a = a
+polled_ahead (Ok tt) s t r i up hw buf k e a =
     poll_cases (λ q. Asleep q.clock.deadline k.now) s t r i up hw buf k
     (λ on.
-    sync_ahead k.now (with_discovery s u.discovery) t r i hw k.now u.clock u.answer (turn_forward s.discovery (sender_in up t) buf k).now
+    sync_ahead k.now (with_discovery s u.discovery) t r i hw k.now u.clock (Ok u.answer) (turn_forward s.discovery (sender_in up t) buf k).now
     (turn_ahead k.now (fine_time k.now i e) s.discovery (sender_in up t) buf k refl a))
     (λ off. a)
   where

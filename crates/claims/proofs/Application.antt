@@ -6,6 +6,8 @@ use lib.Dec.{eqb, ltb}
 use lib.ListN.{take, length}
 use mathlib.Core.Logic.{inl}
 use mathlib.Core.Path.{◌≡◌, refl, sym, ap, ◌∙◌, subst}
+use Rattle.std.specs.Prelude.{Result, Ok, Err}
+use Rattle.wire.specs.declared.error.Refusal.{Refusal}
 use Rattle.claims.proofs.Keeps.{Keeps, keep_step, keep_run}
 use Rattle.claims.proofs.Lists.{entries_with, all_of, some_after, some_append, some_with, member_kept, member_first}
 use Rattle.claims.specs.Application.{own_addrs, is_route_from_slaac, own_routes, NeverGoes}
@@ -32,10 +34,6 @@ use Rattle.time.specs.ClockRules.{is_after}
 use Rattle.time.specs.declared.Expiry.TheVariants.{At}
 use Rattle.time.specs.declared.Instant.{Instant}
 use Rattle.wire.specs.Rfc2464.{formed_of}
-use Rattle.wire.specs.declared.error.Check.TheVariants.{Fine, Refused as Fails}
-use Rattle.wire.specs.declared.error.Check.{Check}
-use Rattle.wire.specs.declared.error.Outcome.TheVariants.{Refused, Done}
-use Rattle.wire.specs.declared.error.Outcome.{Outcome}
 use Rattle.wire.specs.declared.ethernet.HardwareAddress.{HardwareAddress}
 use Rattle.wire.specs.declared.ipv6.Formed.TheVariants.{Nothing, Addr}
 use Rattle.wire.specs.declared.ipv6.Formed.{Formed}
@@ -99,9 +97,9 @@ module _ (e : IfaceAddr) (own : e.origin ≡ Manual) where
   unfolding clear_addrs
   clear_keeps t m = some_with (λ x. x ≡ e) t.slots (kept is_from_slaac (addrs_of t)) (member_kept e is_from_slaac not_slaac (addrs_of t) m)
 
-  add_keeps : (x : Check) (t : IfaceAddrs) (c : Ipv6Cidr) → Member e (addrs_of t) → Member e (addrs_of (add_addr_by x t c).addrs)
-  add_keeps (Fails why) t c m = m
-  add_keeps Fine t c m = some_with (λ x. x ≡ e) t.slots (addrs_of t ++ (manual_addr c ∷ [])) (some_append (λ x. x ≡ e) (addrs_of t) (manual_addr c ∷ []) m)
+  add_keeps : (x : Result (Unit {0}) Refusal) (t : IfaceAddrs) (c : Ipv6Cidr) → Member e (addrs_of t) → Member e (addrs_of (add_addr_by x t c).addrs)
+  add_keeps (Err why) t c m = m
+  add_keeps (Ok tt) t c m = some_with (λ x. x ≡ e) t.slots (addrs_of t ++ (manual_addr c ∷ [])) (some_append (λ x. x ≡ e) (addrs_of t) (manual_addr c ∷ []) m)
 
   sync_one : (hw : HardwareAddress) (now : Instant) (t : IfaceAddrs) (p : Prefix) → Member e (addrs_of t) → Member e (addrs_of (sync_prefix hw now t p))
   unfolding sync_prefix
@@ -145,9 +143,9 @@ module _ (e : Route) (own : e.origin ≡ ManualRoute) where
   unfolding clear_routes
   clear_routes_keep t i m = some_with (λ x. x ≡ e) t.slots (kept (is_learned i) (routes_of t)) (member_kept e (is_learned i) (rw own) (routes_of t) m)
 
-  add_route_keeps : (x : Check) (t : Routes) (n : Route) → Member e (routes_of t) → Member e (routes_of (add_route_by x t n).routes)
-  add_route_keeps (Fails why) t n m = m
-  add_route_keeps Fine t n m = some_with (λ x. x ≡ e) t.slots (routes_of t ++ (n ∷ [])) (some_append (λ x. x ≡ e) (routes_of t) (n ∷ []) m)
+  add_route_keeps : (x : Result (Unit {0}) Refusal) (t : Routes) (n : Route) → Member e (routes_of t) → Member e (routes_of (add_route_by x t n).routes)
+  add_route_keeps (Err why) t n m = m
+  add_route_keeps (Ok tt) t n m = some_with (λ x. x ≡ e) t.slots (routes_of t ++ (n ∷ [])) (some_append (λ x. x ≡ e) (routes_of t) (n ∷ []) m)
 
   sync_router_lem : (i : ℕ) (now : Instant) (t : Routes) (r : Router) → Member e (routes_of t) → Member e (routes_of (sync_router i now t r))
   unfolding sync_router
@@ -314,24 +312,24 @@ module _ (l : List Route) where
 
 -- The application's calls
 
-abbrev IsDone : Outcome → Type 0
-IsDone (Refused why) = ⊥
-IsDone Done = Unit {0}
+abbrev IsDone : Result (Unit {0}) Refusal → Type 0
+IsDone (Err why) = ⊥
+IsDone (Ok tt) = Unit {0}
 
-new_address : (x : Check) (t : IfaceAddrs) (c : Ipv6Cidr) → IsDone (add_addr_by x t c).outcome → Member (manual_addr c) (addrs_of (add_addr_by x t c).addrs)
-new_address (Fails why) t c h = absurd h
-new_address Fine t c h = some_with (λ x. x ≡ manual_addr c) t.slots (addrs_of t ++ (manual_addr c ∷ [])) (some_after (λ x. x ≡ manual_addr c) (addrs_of t) (manual_addr c ∷ []) (inl refl))
+new_address : (x : Result (Unit {0}) Refusal) (t : IfaceAddrs) (c : Ipv6Cidr) → IsDone (add_addr_by x t c).outcome → Member (manual_addr c) (addrs_of (add_addr_by x t c).addrs)
+new_address (Err why) t c h = absurd h
+new_address (Ok tt) t c h = some_with (λ x. x ≡ manual_addr c) t.slots (addrs_of t ++ (manual_addr c ∷ [])) (some_after (λ x. x ≡ manual_addr c) (addrs_of t) (manual_addr c ∷ []) (inl refl))
 
-new_route : (x : Check) (t : Routes) (e : Route) → IsDone (add_route_by x t e).outcome → Member e (routes_of (add_route_by x t e).routes)
-new_route (Fails why) t e h = absurd h
-new_route Fine t e h = some_with (λ x. x ≡ e) t.slots (routes_of t ++ (e ∷ [])) (some_after (λ x. x ≡ e) (routes_of t) (e ∷ []) (inl refl))
+new_route : (x : Result (Unit {0}) Refusal) (t : Routes) (e : Route) → IsDone (add_route_by x t e).outcome → Member e (routes_of (add_route_by x t e).routes)
+new_route (Err why) t e h = absurd h
+new_route (Ok tt) t e h = some_with (λ x. x ≡ e) t.slots (routes_of t ++ (e ∷ [])) (some_after (λ x. x ≡ e) (routes_of t) (e ∷ []) (inl refl))
 
-address_done : (t : IfaceAddrs) (i : ℕ) (c : Ipv6Cidr) (r : Added) → AddedTo t i c r → r.outcome ≡ Done → Member (manual_addr c) (addrs_of r.addrs)
+address_done : (t : IfaceAddrs) (i : ℕ) (c : Ipv6Cidr) (r : Added) → AddedTo t i c r → r.outcome ≡ Ok tt → Member (manual_addr c) (addrs_of r.addrs)
 address_done t i c r p ok =
     subst (λ (q : Added). IsDone q.outcome → Member (manual_addr c) (addrs_of q.addrs)) (sym p.is) (new_address (addr_check i c (addrs_of t)) t c)
     (subst IsDone (sym ok) tt)
 
-route_done : (t : Routes) (i : ℕ) (c : Ipv6Cidr) (via : Ipv6Addr) (r : AddedRoute) → AddedRouteTo t i c via r → r.outcome ≡ Done
+route_done : (t : Routes) (i : ℕ) (c : Ipv6Cidr) (via : Ipv6Addr) (r : AddedRoute) → AddedRouteTo t i c via r → r.outcome ≡ Ok tt
     → Member (manual_route i c via) (routes_of r.routes)
 route_done t i c via r p ok =
     subst (λ (q : AddedRoute). IsDone q.outcome → Member (manual_route i c via) (routes_of q.routes)) (sym p.is)

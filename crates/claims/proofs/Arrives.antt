@@ -8,6 +8,8 @@ use mathlib.Core.List.{List, [], ◌∷◌, ◌++◌}
 use mathlib.Core.Logic.{inl, inr}
 use mathlib.Core.Path.{◌≡◌, refl, sym, ap, ◌∙◌, subst}
 use native.Mathlib.Omega.{arith}
+use Rattle.std.specs.Prelude.{Result, Ok, Err}
+use Rattle.wire.specs.declared.error.Refusal.{Refusal}
 use Rattle.claims.proofs.Clocks.{turn_forward}
 use Rattle.claims.proofs.Keeps.{turn_cases, turn_in, poll_cases, Keeps, keep_run}
 use Rattle.claims.proofs.Lists.{or_left, or_right, fold_append, entries_with, first_length, one_most, if_most, none_most, any_first, first_comes, all_after, all_first, all_if, some_first, some_length, some_weaken, some_apply, some_hit, some_new, some_clash}
@@ -57,8 +59,6 @@ use Rattle.time.specs.declared.Instant.{Instant}
 use Rattle.wire.specs.Refusals.{time_check}
 use Rattle.wire.specs.Rfc2464.{formed_of}
 use Rattle.wire.specs.Rfc4291.{same_cidr}
-use Rattle.wire.specs.declared.error.Check.TheVariants.{Fine, Refused as Fails}
-use Rattle.wire.specs.declared.error.Check.{Check}
 use Rattle.wire.specs.declared.ethernet.HardwareAddress.{HardwareAddress}
 use Rattle.wire.specs.declared.ipv6.Formed.TheVariants.{Addr}
 use Rattle.wire.specs.declared.ipv6.Ipv6Addr.{Ipv6Addr}
@@ -67,7 +67,7 @@ use Rattle.wire.specs.declared.ipv6.Ipv6Cidr.{Ipv6Cidr}
 -- A poll that is taken after every prefix's end
 
 module _ (hw : HardwareAddress) (a : Ipv6Cidr) where
-  gone_sync : (s : Slaac) (t : IfaceAddrs) (r : Routes) (i : ℕ) (now : Instant) (k : Clock) (w : PollAnswer) → k.now ≡ now → Based hw a s t → AllEnded hw a now s
+  gone_sync : (s : Slaac) (t : IfaceAddrs) (r : Routes) (i : ℕ) (now : Instant) (k : Clock) (w : Result PollAnswer Refusal) → k.now ≡ now → Based hw a s t → AllEnded hw a now s
       → has a (addrs_of (sync_turn s t r i hw now k w).polled.addrs) ≡ false
   unfolding sync_addrs
   gone_sync s t r i now k w same g l =
@@ -82,13 +82,13 @@ module _ (hw : HardwareAddress) (a : Ipv6Cidr) where
       still true h e = absurd (true≢false (sym (due_prefix s k now same (some_apply (FormsWith hw a) (λ p. is_after p.valid_until now ≡ false) (prefixes_of s) (g.prefix h) l)) ∙ e))
       still false h e = refl
 
-  gone_poll : (x : Check) (s : Slaac) (t : IfaceAddrs) (r : Routes) (i : ℕ) (up : Bool) (buf : List ℕ) (k : Clock) → x ≡ Fine → Based hw a s t
+  gone_poll : (x : Result (Unit {0}) Refusal) (s : Slaac) (t : IfaceAddrs) (r : Routes) (i : ℕ) (up : Bool) (buf : List ℕ) (k : Clock) → x ≡ Ok tt → Based hw a s t
       → AllEnded hw a k.now s → has a (addrs_of (poll_by x s t r i up hw buf k).polled.addrs) ≡ false
-  gone_poll (Fails why) s t r i linked buf k fine g l = absurd (refused_fine why fine)
-  gone_poll Fine s t r i linked buf k fine g l =
+  gone_poll (Err why) s t r i linked buf k fine g l = absurd (refused_fine why fine)
+  gone_poll (Ok tt) s t r i linked buf k fine g l =
       poll_cases (λ q. has a (addrs_of q.polled.addrs) ≡ false) s t r i linked hw buf k
       (λ e.
-      gone_sync (with_discovery s u.discovery) t r i k.now u.clock u.answer (turn_forward s.discovery (sender_in linked t) buf k).now
+      gone_sync (with_discovery s u.discovery) t r i k.now u.clock (Ok u.answer) (turn_forward s.discovery (sender_in linked t) buf k).now
       (record { once = g.once; off = g.off; prefix = g.prefix }) l)
       (λ e. g.off e)
     where
@@ -342,18 +342,18 @@ router_asked now s source d h = go (ltb 0 d.0)
     go true = or_left s.sync_required _ h
     go false = or_left s.sync_required _ h
 
-message_taken : (x : Check) (s : Slaac) (c : NeighborCache) (i : ℕ) (source : Ipv6Addr) (msg : List ℕ) (now : Instant) → x ≡ Fine
+message_taken : (x : Result (Unit {0}) Refusal) (s : Slaac) (c : NeighborCache) (i : ℕ) (source : Ipv6Addr) (msg : List ℕ) (now : Instant) → x ≡ Ok tt
     → (message_by x s c i source msg now).slaac ≡ steps2to4 s source msg now
-message_taken (Fails why) s c i source msg now e = absurd (refused_fine why e)
-message_taken Fine s c i source msg now e = refl
+message_taken (Err why) s c i source msg now e = absurd (refused_fine why e)
+message_taken (Ok tt) s c i source msg now e = refl
 
-pub call_taken : (x : Check) (s : Slaac) (c : NeighborCache) (i : ℕ) (source : Ipv6Addr) (msg : List ℕ) (now : Instant) → x ≡ Fine → s.on ≡ true
-    → message_check source msg ≡ Fine → (call_by x s c i source msg now).slaac ≡ steps2to4 s source msg now
-call_taken (Fails why) s c i source msg now e on m = absurd (refused_fine why e)
-call_taken Fine s c i source msg now e on m = go s.on on
+pub call_taken : (x : Result (Unit {0}) Refusal) (s : Slaac) (c : NeighborCache) (i : ℕ) (source : Ipv6Addr) (msg : List ℕ) (now : Instant) → x ≡ Ok tt → s.on ≡ true
+    → message_check source msg ≡ Ok tt → (call_by x s c i source msg now).slaac ≡ steps2to4 s source msg now
+call_taken (Err why) s c i source msg now e on m = absurd (refused_fine why e)
+call_taken (Ok tt) s c i source msg now e on m = go s.on on
   where
     go : (b : Bool) → b ≡ true
-        → (cond {A = Advertised} b (message_by (message_check source msg) s c i source msg now) (record { slaac = s; cache = c; answer = Off })).slaac ≡ steps2to4 s source msg now
+        → (cond {A = Advertised} b (message_by (message_check source msg) s c i source msg now) (record { slaac = s; cache = c; answer = Ok Off })).slaac ≡ steps2to4 s source msg now
     go true f = message_taken (message_check source msg) s c i source msg now m
     go false f = absurd (true≢false (sym f))
 

@@ -8,6 +8,8 @@ use mathlib.Core.List.{List, [], ◌∷◌, ◌++◌, append_assoc}
 use mathlib.Core.Logic.{◌⊎◌, inl, inr}
 use mathlib.Core.Path.{◌≡◌, refl, sym, ap, ◌∙◌, subst}
 use native.Mathlib.Omega.{arith}
+use Rattle.std.specs.Prelude.{Result, Ok, Err}
+use Rattle.wire.specs.declared.error.Refusal.{Refusal}
 use Rattle.claims.proofs.Keeps.{Keeps, keep_run}
 use Rattle.claims.proofs.Lists.{either_none, none_either, none_append, none_first, none_if, back, all_of, some_first, some_with, some_both, some_kept}
 use Rattle.claims.proofs.Standing.{steps_prefixes, same_cidr_lem, same_addr_refl}
@@ -36,8 +38,6 @@ use Rattle.time.specs.declared.Duration.{Duration}
 use Rattle.time.specs.declared.Instant.{Instant}
 use Rattle.wire.specs.Rfc2464.{formed_addr, formed_of}
 use Rattle.wire.specs.Rfc4291.{same_cidr}
-use Rattle.wire.specs.declared.error.Check.TheVariants.{Fine, Refused as Fails}
-use Rattle.wire.specs.declared.error.Check.{Check}
 use Rattle.wire.specs.declared.ethernet.HardwareAddress.{HardwareAddress}
 use Rattle.wire.specs.declared.ipv6.Formed.TheVariants.{Nothing, Addr}
 use Rattle.wire.specs.declared.ipv6.Formed.{Formed}
@@ -70,9 +70,9 @@ pub added_cases : (P : List IfaceAddr → Type 0) (i : ℕ) (t : IfaceAddrs) (c 
     → P (addrs_of r.addrs)
 added_cases P i t c r p h g = subst (λ (q : Added). P (addrs_of q.addrs)) (sym p.is) (by (addr_check i c (addrs_of t)))
   where
-    by : (x : Check) → P (addrs_of (add_addr_by x t c).addrs)
-    by (Fails why) = h
-    by Fine = subst P (sym (addrs_of_lem t (addrs_of t ++ (manual_addr c ∷ [])))) g
+    by : (x : Result (Unit {0}) Refusal) → P (addrs_of (add_addr_by x t c).addrs)
+    by (Err why) = h
+    by (Ok tt) = subst P (sym (addrs_of_lem t (addrs_of t ++ (manual_addr c ∷ [])))) g
 
 -- One prefix of the sync: what it does to the entries
 

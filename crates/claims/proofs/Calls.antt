@@ -8,6 +8,8 @@ use mathlib.Core.List.{List, [], ◌∷◌}
 use mathlib.Core.Logic.{◌⊎◌, inl, inr}
 use mathlib.Core.Path.{◌≡◌, refl, ap, ◌∙◌}
 use native.Mathlib.Omega.{arith}
+use Rattle.std.specs.Prelude.{Result, Ok, Err}
+use Rattle.wire.specs.declared.error.Refusal.{Refusal}
 use Rattle.claims.proofs.Lists.{kept_length}
 use Rattle.claims.proofs.Put.{Evicted, put_apart, put_length, remove_length}
 use Rattle.claims.proofs.Sweep.{sweep_entries, sweep_tells, watch_sweeps, told_sweeps, sweep_few, sweep_length}
@@ -22,8 +24,6 @@ use Rattle.neighbor.specs.NeighborRules.{Table, Key, same_key, insert_state, rem
 use Rattle.neighbor.specs.declared.State.{State}
 use Rattle.table.specs.Table.{kept}
 use Rattle.time.specs.declared.Instant.{Instant}
-use Rattle.wire.specs.declared.error.Check.TheVariants.{Fine, Refused as Fails}
-use Rattle.wire.specs.declared.error.Check.{Check}
 use Rattle.wire.specs.declared.error.Refusal.TheVariants.{TooLate, NoSuchIface}
 
 -- Effects
@@ -140,15 +140,15 @@ pub in_time : (now : Instant) (i : ℕ) → InTime (effect_by (first_refusal (to
 in_time now i = go (ltb (2 ^ 62) now.0) (ltb 3 i) refl
   where
     go : (x y : Bool) → ltb (2 ^ 62) now.0 ≡ x
-        → InTime (effect_by (cond x (Fails TooLate) (cond y (Fails NoSuchIface) Fine)) (sweep i now))
+        → InTime (effect_by (cond x (Err TooLate) (cond y (Err NoSuchIface) (Ok tt))) (sweep i now))
     go true y h = tt
     go false true h = tt
     go false false h = ltb-false (2 ^ 62) now.0 h
 
 -- a call that means no sweep is always in time
-calm : (c : Call) (x : Check) → InTime (if_taken c) → InTime (effect_by x c)
-calm c (Fails why) h = tt
-calm c Fine h = h
+calm : (c : Call) (x : Result (Unit {0}) Refusal) → InTime (if_taken c) → InTime (effect_by x c)
+calm c (Err why) h = tt
+calm c (Ok tt) h = h
 
 pub called_in_time : (c : Call) → InTime (effect c)
 unfolding check
@@ -201,9 +201,9 @@ module _ (k : Key) (c : Call) (t : Table) (d : Distinct t) where
   pub call_told : reports_in k (answer c t) ≡ told_by k c (watch_of (entries_of k t))
   call_told = go (check c) (called_in_time c)
     where
-      go : (x : Check) → InTime (effect_by x c) → reports_in k (answer_by x c t) ≡ told_effect k (effect_by x c) (watch_of (entries_of k t))
-      go (Fails why) late = refl
-      go Fine late = replies k c t late d
+      go : (x : Result (Unit {0}) Refusal) → InTime (effect_by x c) → reports_in k (answer_by x c t) ≡ told_effect k (effect_by x c) (watch_of (entries_of k t))
+      go (Err why) late = refl
+      go (Ok tt) late = replies k c t late d
 
   -- an eviction too
   pub call_ends : watch_of (entries_of k (next c t)) ≡ cond (evicts k c t) gone (watch_call k c (watch_of (entries_of k t)))

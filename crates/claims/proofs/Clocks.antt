@@ -6,6 +6,8 @@ use mathlib.Core.Bool.{Bool, true, false, cond}
 use mathlib.Core.List.{List, [], ◌∷◌}
 use mathlib.Core.Path.{◌≡◌, refl, sym, ap, ◌∙◌, subst}
 use native.Mathlib.Omega.{arith}
+use Rattle.std.specs.Prelude.{Option, Some, None, Result, Ok, Err}
+use Rattle.wire.specs.declared.error.Refusal.{Refusal}
 use Rattle.claims.proofs.Calls.{InTime, in_time}
 use Rattle.claims.proofs.Covers.{Covered, prefix_end, router_end, asked_all, prefix_covers, router_covers}
 use Rattle.claims.proofs.Keeps.{turn_cases, turn_in, sync_after, poll_cases}
@@ -16,8 +18,6 @@ use Rattle.claims.specs.Clocks.{Sweep, swept, swept_at, Poll, polled, polled_at,
 use Rattle.claims.specs.Lists.{All}
 use Rattle.claims.specs.Watch.{later}
 use Rattle.iface.specs.declared.addr.IfaceAddrs.{IfaceAddrs}
-use Rattle.iface.specs.declared.addr.Source.TheVariants.{Nothing, From}
-use Rattle.iface.specs.declared.addr.Source.{Source}
 use Rattle.iface.specs.declared.route.Routes.{Routes}
 use Rattle.slaac.specs.DiscoveryRules.{due_phase, due, retry_at, sent, solicitation}
 use Rattle.slaac.specs.Fields.{with_discovery}
@@ -51,13 +51,9 @@ use Rattle.time.specs.ClockRules.{is_after, scheduled_of}
 use Rattle.time.specs.Forward.{NotLater, Forward}
 use Rattle.time.specs.declared.Answer.{Answer}
 use Rattle.time.specs.declared.Clock.{Clock}
-use Rattle.time.specs.declared.Deadline.TheVariants.{At}
-use Rattle.time.specs.declared.Deadline.{Deadline}
 use Rattle.time.specs.declared.Expiry.TheVariants.{At as EndsAt, Forever}
 use Rattle.time.specs.declared.Expiry.{Expiry}
 use Rattle.time.specs.declared.Instant.{Instant}
-use Rattle.wire.specs.declared.error.Check.TheVariants.{Fine, Refused as Fails}
-use Rattle.wire.specs.declared.error.Check.{Check}
 use Rattle.wire.specs.declared.ethernet.HardwareAddress.{HardwareAddress}
 use Rattle.wire.specs.declared.ipv6.Ipv6Addr.{Ipv6Addr}
 
@@ -72,10 +68,10 @@ unfolding expire_clocks
 pass_forward k [] = unmoved k
 pass_forward k (e ∷ t) = then k (expire_clock k e) (expire_clocks (expire_clock k e) t) (expiry_forward k e.state) (pass_forward (expire_clock k e) t)
 
-swept_forward : (x : Check) (c : NeighborCache) (k : Clock) (i : ℕ) → Forward k (sweep_by x c k i).clock
+swept_forward : (x : Result (Unit {0}) Refusal) (c : NeighborCache) (k : Clock) (i : ℕ) → Forward k (sweep_by x c k i).clock
 unfolding swept_in
-swept_forward (Fails why) c k i = unmoved k
-swept_forward Fine c k i = pass_forward k _
+swept_forward (Err why) c k i = unmoved k
+swept_forward (Ok tt) c k i = pass_forward k _
 
 -- The poll
 
@@ -108,10 +104,10 @@ solicit_forward d k = go (due d k).expired
     go true = then k (due d k).clock (sent d (due d k).clock).clock (due_forward d k) (sent_forward d (due d k).clock)
     go false = due_forward d k
 
-pub turn_forward : (d : Discovery) (sender : Source) (buf : List ℕ) (k : Clock) → Forward k (turn_of d sender buf k).clock
+pub turn_forward : (d : Discovery) (sender : Option Ipv6Addr) (buf : List ℕ) (k : Clock) → Forward k (turn_of d sender buf k).clock
 unfolding turn_of
-turn_forward d Nothing buf k = unmoved k
-turn_forward d (From a) buf k = solicit_forward d k
+turn_forward d None buf k = unmoved k
+turn_forward d (Some a) buf k = solicit_forward d k
 
 prefixes_forward : (ps : List Prefix) (a : Answer) → Forward a.clock (fold_over ask_prefix a ps).clock
 prefixes_forward [] a = unmoved a.clock
@@ -130,17 +126,17 @@ asked_forward s k = then k first.clock (fold_over ask_router first (routers_of s
     first : Answer
     first = fold_over ask_prefix (record { expired = s.sync_required; clock = k }) (prefixes_of s)
 
-sync_forward : (s : Slaac) (t : IfaceAddrs) (r : Routes) (i : ℕ) (hw : HardwareAddress) (now : Instant) (k : Clock) (w : PollAnswer) → Forward k (sync_turn s t r i hw now k w).clock
+sync_forward : (s : Slaac) (t : IfaceAddrs) (r : Routes) (i : ℕ) (hw : HardwareAddress) (now : Instant) (k : Clock) (w : Result PollAnswer Refusal) → Forward k (sync_turn s t r i hw now k w).clock
 sync_forward s t r i hw now k w = turn_cases (λ q. Forward k q.clock) s t r i hw now k w (λ e. asked_forward s k) (λ e. asked_forward s k)
 
-poll_forward : (x : Check) (s : Slaac) (t : IfaceAddrs) (r : Routes) (i : ℕ) (up : Bool) (hw : HardwareAddress) (buf : List ℕ) (k : Clock)
+poll_forward : (x : Result (Unit {0}) Refusal) (s : Slaac) (t : IfaceAddrs) (r : Routes) (i : ℕ) (up : Bool) (hw : HardwareAddress) (buf : List ℕ) (k : Clock)
     → Forward k (poll_by x s t r i up hw buf k).clock
-poll_forward (Fails why) s t r i up hw buf k = unmoved k
-poll_forward Fine s t r i up hw buf k =
+poll_forward (Err why) s t r i up hw buf k = unmoved k
+poll_forward (Ok tt) s t r i up hw buf k =
     poll_cases (λ q. Forward k q.clock) s t r i up hw buf k
     (λ e.
     then k u.clock (sync_after u s t r i hw k.now).clock (turn_forward s.discovery (sender_in up t) buf k)
-    (sync_forward (with_discovery s u.discovery) t r i hw k.now u.clock u.answer))
+    (sync_forward (with_discovery s u.discovery) t r i hw k.now u.clock (Ok u.answer)))
     (λ e. unmoved k)
   where
     u : Turn
@@ -149,7 +145,7 @@ poll_forward Fine s t r i up hw buf k =
 -- No later than what is still to come
 
 one_waits : (now : Instant) → now.0 ≤ 2 ^ 62 → (k : Clock) (s : State) → k.now ≡ now → WakesForState now (expire_clock_state k s).deadline s
-one_waits now late k Started same = subst (λ (t : Instant). NotLater (scheduled_of k (due_from k.now)).deadline (At t)) (ap due_from same ∙ ample_due) (forward_law.kept k (due_from k.now))
+one_waits now late k Started same = subst (λ (t : Instant). NotLater (scheduled_of k (due_from k.now)).deadline (Some t)) (ap due_from same ∙ ample_due) (forward_law.kept k (due_from k.now))
   where
     ample_due : due_from now ≡ later now 1000
     ample_due = λ i. record { 0 = ample now late i }
@@ -157,10 +153,10 @@ one_waits now late k (Incomplete p t) same = λ h. forward_law.covers k t (rw (l
 one_waits now late k (Reachable a t) same = λ h. forward_law.covers k t (rw (lt-leb t.0 k.now.0 (subst (λ (n : Instant). n.0 < t.0) (sym same) h)))
 one_waits now late k (Stale a) same = tt
 
-waits_sooner : (now : Instant) (a b : Deadline) (s : State) → NotLater a b → WakesForState now b s → WakesForState now a s
-waits_sooner now a b Started h w = after a b (At (later now 1000)) h w
-waits_sooner now a b (Incomplete p t) h w = λ q. after a b (At t) h (w q)
-waits_sooner now a b (Reachable x t) h w = λ q. after a b (At t) h (w q)
+waits_sooner : (now : Instant) (a b : Option Instant) (s : State) → NotLater a b → WakesForState now b s → WakesForState now a s
+waits_sooner now a b Started h w = after a b (Some (later now 1000)) h w
+waits_sooner now a b (Incomplete p t) h w = λ q. after a b (Some t) h (w q)
+waits_sooner now a b (Reachable x t) h w = λ q. after a b (Some t) h (w q)
 waits_sooner now a b (Stale x) h w = tt
 
 pass_waits : (now : Instant) → now.0 ≤ 2 ^ 62 → (k : Clock) (t : Table) → k.now ≡ now → All (λ e. WakesForState now (expire_clocks k t).deadline e.state) t
@@ -172,15 +168,15 @@ pass_waits now late k (e ∷ t) same = (
   pass_waits now late (expire_clock k e) t ((expiry_forward k e.state).now ∙ same),
 )
 
-pub fine_time : (now : Instant) (i : ℕ) → time_check now i ≡ Fine → now.0 ≤ 2 ^ 62
-fine_time now i ok = subst (λ (x : Check). InTime (effect_by x (sweep i now))) ok (in_time now i)
+pub fine_time : (now : Instant) (i : ℕ) → time_check now i ≡ Ok tt → now.0 ≤ 2 ^ 62
+fine_time now i ok = subst (λ (x : Result (Unit {0}) Refusal). InTime (effect_by x (sweep i now))) ok (in_time now i)
 
-taken_clock : {c d : NeighborCache} {k k' : Clock} {i : ℕ} {events : List ProbeEvent} → Sweep c k i events d k' → time_check k.now i ≡ Fine → k' ≡ expire_clocks k (entries c)
+taken_clock : {c d : NeighborCache} {k k' : Clock} {i : ℕ} {events : List ProbeEvent} → Sweep c k i events d k' → time_check k.now i ≡ Ok tt → k' ≡ expire_clocks k (entries c)
 unfolding swept_in
-taken_clock (swept c k k' i r h) ok = h.clock ∙ ap (λ (x : Check). (sweep_by x c k i).clock) ok
-taken_clock (swept_at c k i r h) ok = ap (λ (q : Swept). q.clock) (h.is ∙ ap (λ (x : Check). sweep_by x c k i) ok)
+taken_clock (swept c k k' i r h) ok = h.clock ∙ ap (λ (x : Result (Unit {0}) Refusal). (sweep_by x c k i).clock) ok
+taken_clock (swept_at c k i r h) ok = ap (λ (q : Swept). q.clock) (h.is ∙ ap (λ (x : Result (Unit {0}) Refusal). sweep_by x c k i) ok)
 
-sweep_waits : (c d : NeighborCache) (k k' : Clock) (i : ℕ) (events : List ProbeEvent) → Sweep c k i events d k' → time_check k.now i ≡ Fine
+sweep_waits : (c d : NeighborCache) (k k' : Clock) (i : ℕ) (events : List ProbeEvent) → Sweep c k i events d k' → time_check k.now i ≡ Ok tt
     → All (λ e. WakesForState k.now k'.deadline e.state) (entries c)
 sweep_waits c d k k' i events s ok =
     subst (λ (m : Clock). All (λ e. WakesForState k.now m.deadline e.state) (entries c)) (sym (taken_clock s ok))
@@ -194,7 +190,7 @@ pub record Took (i : ℕ) (up : Bool) (hw : HardwareAddress) (s : Slaac) (t : If
 
 module _ {i : ℕ} {up : Bool} {hw : HardwareAddress} where
   pub poll_took : {s : Slaac} {t : IfaceAddrs} {r : Routes} {buf : List ℕ} {k : Clock} {p : Polled} {buf' : List ℕ} {k' : Clock}
-      → Poll i up hw s t r buf k p buf' k' → time_check k.now i ≡ Fine → s.on ≡ true → Took i up hw s t r buf k p buf' k'
+      → Poll i up hw s t r buf k p buf' k' → time_check k.now i ≡ Ok tt → s.on ≡ true → Took i up hw s t r buf k p buf' k'
   poll_took (polled s t r buf k p buf' k' h) ok on =
       record { answers = h.is ∙ ap (λ (q : PolledAt). q.polled) is; clock = h.clock ∙ ap (λ (q : PolledAt). q.clock) is; buffer = h.leaves ∙ same_buffer }
     where
@@ -212,7 +208,7 @@ module _ {i : ℕ} {up : Bool} {hw : HardwareAddress} where
       same_buffer : poll_buffer (time_check k.now i) s t up hw buf k ≡ buffer_of s.discovery (sender_in up t) hw buf k
       same_buffer = rw (ok, on)
 
-waits_end : (now : Instant) (d : Deadline) (e : Expiry) → (is_after e now ≡ true → Covered d e) → WakesFor now d e
+waits_end : (now : Instant) (d : Option Instant) (e : Expiry) → (is_after e now ≡ true → Covered d e) → WakesFor now d e
 waits_end now d (EndsAt x) f = λ h. f (lt-ltb now.0 x.0 h)
 waits_end now d Forever f = tt
 
@@ -242,40 +238,40 @@ some_left : (n : ℕ) → 0 < n → eqb n 0 ≡ false
 some_left n h = ne_eqb n 0 (λ q. absurd (omega arith))
 
 due_waits : (d : Discovery) (k : Clock) (retry : Instant) → d.phase ≡ Discovering retry → 0 < d.num_solicitations → (due d k).expired ≡ false
-    → NotLater (due d k).clock.deadline (At retry)
+    → NotLater (due d k).clock.deadline (Some retry)
 unfolding due
 due_waits d k retry p n e = rw (some_left d.num_solicitations n) (go d.phase p (rw (some_left d.num_solicitations n) at e))
   where
-    go : (q : Phase) → q ≡ Discovering retry → (due_phase q k).expired ≡ false → NotLater (due_phase q k).clock.deadline (At retry)
-    go q z = subst (λ (y : Phase). (due_phase y k).expired ≡ false → NotLater (due_phase y k).clock.deadline (At retry)) (sym z) (forward_law.covers k retry)
+    go : (q : Phase) → q ≡ Discovering retry → (due_phase q k).expired ≡ false → NotLater (due_phase q k).clock.deadline (Some retry)
+    go q z = subst (λ (y : Phase). (due_phase y k).expired ≡ false → NotLater (due_phase y k).clock.deadline (Some retry)) (sym z) (forward_law.covers k retry)
 
 sent_waits : (d : Discovery) (k : Clock) (retry : Instant) → (sent d k).discovery.phase ≡ Discovering retry → 0 < (sent d k).discovery.num_solicitations
-    → NotLater (sent d k).clock.deadline (At retry)
+    → NotLater (sent d k).clock.deadline (Some retry)
 unfolding sent
 sent_waits d k retry p n =
     rw (some_left (d.num_solicitations - 1) n)
-    (subst (λ (t : Instant). NotLater (scheduled_of k (retry_at k)).deadline (At t)) (ap (λ (q : Phase). retry_of q retry) p) (forward_law.kept k (retry_at k)))
+    (subst (λ (t : Instant). NotLater (scheduled_of k (retry_at k)).deadline (Some t)) (ap (λ (q : Phase). retry_of q retry) p) (forward_law.kept k (retry_at k)))
 
 solicit_waits : (d : Discovery) (k : Clock) (retry : Instant) → (solicitation d k).discovery.phase ≡ Discovering retry → 0 < (solicitation d k).discovery.num_solicitations
-    → NotLater (solicitation d k).clock.deadline (At retry)
+    → NotLater (solicitation d k).clock.deadline (Some retry)
 unfolding solicitation
 solicit_waits d k retry = go (due d k).expired refl
   where
     by : Bool → Solicitation
     by b = cond b (sent d (due d k).clock) (record { due = false; discovery = d; clock = (due d k).clock })
 
-    go : (b : Bool) → (due d k).expired ≡ b → (by b).discovery.phase ≡ Discovering retry → 0 < (by b).discovery.num_solicitations → NotLater (by b).clock.deadline (At retry)
+    go : (b : Bool) → (due d k).expired ≡ b → (by b).discovery.phase ≡ Discovering retry → 0 < (by b).discovery.num_solicitations → NotLater (by b).clock.deadline (Some retry)
     go true q p n = sent_waits d (due d k).clock retry p n
     go false q p n = due_waits d k retry p n q
 
-pub turn_waits : (d : Discovery) (sender : Source) (buf : List ℕ) (k : Clock) (source : Ipv6Addr) (retry : Instant) → sender ≡ From source
+pub turn_waits : (d : Discovery) (sender : Option Ipv6Addr) (buf : List ℕ) (k : Clock) (source : Ipv6Addr) (retry : Instant) → sender ≡ Some source
     → (turn_of d sender buf k).discovery.phase ≡ Discovering retry → 0 < (turn_of d sender buf k).discovery.num_solicitations
-    → NotLater (turn_of d sender buf k).clock.deadline (At retry)
+    → NotLater (turn_of d sender buf k).clock.deadline (Some retry)
 unfolding turn_of
 turn_waits d sender buf k source retry h =
     subst
-    (λ (x : Source).
-    (turn_of d x buf k).discovery.phase ≡ Discovering retry → 0 < (turn_of d x buf k).discovery.num_solicitations → NotLater (turn_of d x buf k).clock.deadline (At retry))
+    (λ (x : Option Ipv6Addr).
+    (turn_of d x buf k).discovery.phase ≡ Discovering retry → 0 < (turn_of d x buf k).discovery.num_solicitations → NotLater (turn_of d x buf k).clock.deadline (Some retry))
     (sym h) (solicit_waits d k retry)
 
 module _ (s : Slaac) (t : IfaceAddrs) (r : Routes) (i : ℕ) (up : Bool) (hw : HardwareAddress) (buf : List ℕ) (k : Clock) where
@@ -290,7 +286,7 @@ module _ (s : Slaac) (t : IfaceAddrs) (r : Routes) (i : ℕ) (up : Bool) (hw : H
   poll_clock = go (sync_due turned turn.clock).expired
     where
       go : (b : Bool)
-          → (cond {A = PolledAt} b (synced turned t r i hw k.now (sync_due turned turn.clock).clock turn.answer) (asPolled turned t r (sync_due turned turn.clock).clock turn.answer)).clock
+          → (cond {A = PolledAt} b (synced turned t r i hw k.now (sync_due turned turn.clock).clock (Ok turn.answer)) (asPolled turned t r (sync_due turned turn.clock).clock (Ok turn.answer))).clock
           ≡ (sync_due turned turn.clock).clock
       go true = refl
       go false = refl
@@ -300,7 +296,7 @@ module _ (s : Slaac) (t : IfaceAddrs) (r : Routes) (i : ℕ) (up : Bool) (hw : H
   poll_discovery = go (sync_due turned turn.clock).expired
     where
       go : (b : Bool)
-          → (cond {A = PolledAt} b (synced turned t r i hw k.now (sync_due turned turn.clock).clock turn.answer) (asPolled turned t r (sync_due turned turn.clock).clock turn.answer)).polled.slaac.discovery
+          → (cond {A = PolledAt} b (synced turned t r i hw k.now (sync_due turned turn.clock).clock (Ok turn.answer)) (asPolled turned t r (sync_due turned turn.clock).clock (Ok turn.answer))).polled.slaac.discovery
           ≡ turn.discovery
       go true = refl
       go false = refl
@@ -317,10 +313,10 @@ module _ (s : Slaac) (t : IfaceAddrs) (r : Routes) (i : ℕ) (up : Bool) (hw : H
       × All (λ x. WakesFor k.now m.deadline (EndsAt x.valid_until)) (routers_of s))
       (sym poll_clock) (all_asked turned turn.clock k.now turn_now)
 
-  retry_waits : (source : Ipv6Addr) (retry : Instant) → sender_in up t ≡ From source → turn.discovery.phase ≡ Discovering retry → 0 < turn.discovery.num_solicitations
-      → NotLater (poll_on s t r i up hw buf k).clock.deadline (At retry)
+  retry_waits : (source : Ipv6Addr) (retry : Instant) → sender_in up t ≡ Some source → turn.discovery.phase ≡ Discovering retry → 0 < turn.discovery.num_solicitations
+      → NotLater (poll_on s t r i up hw buf k).clock.deadline (Some retry)
   retry_waits source retry h p n =
-      after (poll_on s t r i up hw buf k).clock.deadline turn.clock.deadline (At retry)
+      after (poll_on s t r i up hw buf k).clock.deadline turn.clock.deadline (Some retry)
       (subst (λ (m : Clock). NotLater m.deadline turn.clock.deadline) (sym poll_clock) (asked_forward turned turn.clock).deadline)
       (turn_waits s.discovery (sender_in up t) buf k source retry h p n)
 
@@ -342,7 +338,7 @@ clocks = record {
   poll_retries =
       λ i up hw s t r buf k p buf' k' h ok on source retry from phase left.
       let discovery = ap (λ (q : Polled). q.slaac.discovery) (poll_took h ok on).answers ∙ poll_discovery s t r i up hw buf k in
-      subst (λ (m : Clock). NotLater m.deadline (At retry)) (sym (poll_took h ok on).clock)
+      subst (λ (m : Clock). NotLater m.deadline (Some retry)) (sym (poll_took h ok on).clock)
       (retry_waits s t r i up hw buf k source retry from (ap (λ (d : Discovery). d.phase) (sym discovery) ∙ phase)
       (subst (λ (d : Discovery). 0 < d.num_solicitations) discovery left));
 }

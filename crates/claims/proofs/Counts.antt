@@ -4,6 +4,8 @@ use mathlib.Core.Bool.{Bool, true, false, cond, true≢false}
 use mathlib.Core.List.{List, [], ◌∷◌}
 use mathlib.Core.Path.{◌≡◌, refl, sym, ap, ◌∙◌, subst}
 use native.Mathlib.Omega.{arith}
+use Rattle.std.specs.Prelude.{Some, None, Result, Ok, Err}
+use Rattle.wire.specs.declared.error.Refusal.{Refusal}
 use Rattle.autoconf.specs.OffRules.{cleared_queue, cleared_handles, off_now, left_alone, off_by, TurnedOffTo}
 use Rattle.autoconf.specs.declared.TurnedOff.{TurnedOff}
 use Rattle.claims.proofs.Follows.{listed}
@@ -25,17 +27,12 @@ use Rattle.pending.specs.QueueRules.{Queue, handle_of, packet, has_key, is_full,
 use Rattle.pending.specs.declared.PendingPacket.{PendingPacket}
 use Rattle.pending.specs.declared.PendingQueue.{PendingQueue}
 use Rattle.pending.specs.declared.Purged.{Purged}
-use Rattle.pending.specs.declared.Push.TheVariants.{Queued, Dropped}
 use Rattle.pending.specs.declared.Pushed.{Pushed}
-use Rattle.pending.specs.declared.Release.TheVariants.{Nothing}
 use Rattle.pending.specs.declared.Released.{Released}
 use Rattle.slaac.specs.DiscoveryRules.{fresh}
 use Rattle.slaac.specs.declared.Slaac.{Slaac}
 use Rattle.table.specs.Table.{any_of, kept}
 use Rattle.wire.specs.Refusals.{iface_check}
-use Rattle.wire.specs.declared.error.Check.TheVariants.{Fine, Refused as Fails}
-use Rattle.wire.specs.declared.error.Check.{Check}
-use Rattle.wire.specs.declared.error.Outcome.TheVariants.{Done}
 
 -- One call
 
@@ -50,14 +47,14 @@ brings_own : (g room : ℕ) (q : Queue) → taken g (push_answer room q) ≡ g �
 unfolding push_answer
 brings_own g room q = go (is_full room q)
   where
-    go : (b : Bool) → taken g (cond b (Dropped (oldest q)) Queued) ≡ g ∷ []
+    go : (b : Bool) → taken g (cond b (Ok (Some (oldest q))) (Ok None)) ≡ g ∷ []
     go true = refl
     go false = refl
 
-push_balanced : (h : ℕ) (x : Check) (q : PendingQueue) (p : PendingPacket)
+push_balanced : (h : ℕ) (x : Result (Unit {0}) Refusal) (q : PendingQueue) (p : PendingPacket)
     → Balanced h q (tally (push (handle_of p) (push_by x q p).answer)) (push_by x q p).queue
-push_balanced h (Fails why) q p = omega arith
-push_balanced h Fine q p =
+push_balanced h (Err why) q p = omega arith
+push_balanced h (Ok tt) q p =
     omega (
       arith,
       accounted.push queue_room h p (packets q) (omega arith),
@@ -65,13 +62,13 @@ push_balanced h Fine q p =
       ap (count_of h) (brings_own (handle_of p) queue_room (packets q)),
     )
 
-release_balanced : (h : ℕ) (x : Check) (q : PendingQueue) (k : Key) → Balanced h q (tally (release (release_by x q k).answer)) (release_by x q k).queue
-release_balanced h (Fails why) q k = omega arith
-release_balanced h Fine q k = go (any_of (has_key k) (packets q))
+release_balanced : (h : ℕ) (x : Result (Unit {0}) Refusal) (q : PendingQueue) (k : Key) → Balanced h q (tally (release (release_by x q k).answer)) (release_by x q k).queue
+release_balanced h (Err why) q k = omega arith
+release_balanced h (Ok tt) q k = go (any_of (has_key k) (packets q))
   where
     after : Bool → Released
     after b =
-        cond b (record { queue = with_packets q (release_list k (packets q)); answer = release_answer k (packets q) }) (record { queue = q; answer = Nothing })
+        cond b (record { queue = with_packets q (release_list k (packets q)); answer = release_answer k (packets q) }) (record { queue = q; answer = Ok None })
 
     go : (b : Bool) → Balanced h q (tally (release (after b).answer)) (after b).queue
     go true = omega (arith, accounted.release h k (packets q), ap (waiting h) (packets_of q (release_list k (packets q))))
@@ -91,23 +88,23 @@ goes_parts h q goes =
       ap (count_of h) (listed (dropped_handles goes (packets q))),
     )
 
-purge_parts : (h : ℕ) (x : Check) (q : PendingQueue) (goes : PendingPacket → Bool) → Parts h q (handle_list (purge_by x q goes).handles) (purge_by x q goes).queue
+purge_parts : (h : ℕ) (x : Result (Unit {0}) Refusal) (q : PendingQueue) (goes : PendingPacket → Bool) → Parts h q (handle_list (purge_by x q goes).handles) (purge_by x q goes).queue
 unfolding purged_of
-purge_parts h (Fails why) q goes = omega arith
-purge_parts h Fine q goes = goes_parts h q goes
+purge_parts h (Err why) q goes = omega arith
+purge_parts h (Ok tt) q goes = goes_parts h q goes
 
-off_parts : (h : ℕ) (x : Check) (s : Slaac) (t : IfaceAddrs) (routes : Routes) (c : NeighborCache) (q : PendingQueue) (i : ℕ)
+off_parts : (h : ℕ) (x : Result (Unit {0}) Refusal) (s : Slaac) (t : IfaceAddrs) (routes : Routes) (c : NeighborCache) (q : PendingQueue) (i : ℕ)
     → Parts h q (handle_list (off_by x s t routes c q i).handles) (off_by x s t routes c q i).queue
 unfolding off_now
-off_parts h (Fails why) s t routes c q i = omega arith
-off_parts h Fine s t routes c q i = on_or_off s.on
+off_parts h (Err why) s t routes c q i = omega arith
+off_parts h (Ok tt) s t routes c q i = on_or_off s.on
   where
     went : (b : Bool) → Parts h q (handle_list (cleared_handles b q i)) (cleared_queue b q i)
     went true = goes_parts h q (on_iface i)
     went false = omega arith
 
     after : Bool → TurnedOff
-    after b = cond b (off_now t routes c q i) (left_alone s t routes c q Done)
+    after b = cond b (off_now t routes c q i) (left_alone s t routes c q (Ok tt))
 
     on_or_off : (b : Bool) → Parts h q (handle_list (after b).handles) (after b).queue
     on_or_off true = went (clear_addrs t).any
@@ -120,7 +117,7 @@ step_balanced h (releases q i a r p) =
     subst (λ (w : Released). Balanced h q (tally (release w.answer)) w.queue) (sym p.is) (release_balanced h (iface_check i) q (key i a))
 step_balanced h (purges_orphans q c r p) =
     subst (λ (w : Purged). Balanced h q (tally (purge_orphans w.handles)) w.queue) (sym p.is)
-    (omega (arith, purge_parts h Fine q (orphaned (entries c))))
+    (omega (arith, purge_parts h (Ok tt) q (orphaned (entries c))))
 step_balanced h (purges_iface q i r p) =
     subst (λ (w : Purged). Balanced h q (tally (purge_iface w.handles)) w.queue) (sym p.is)
     (omega (arith, purge_parts h (iface_check i) q (on_iface i)))
@@ -144,14 +141,14 @@ from_empty h run = omega (arith, from_any h run)
 -- Turning SLAAC off
 
 module _ (s : Slaac) (t : IfaceAddrs) (routes : Routes) (c : NeighborCache) (q : PendingQueue) (i : ℕ) where
-  off_went : (x : Check) → went_by x s.on (clear_addrs t).any ≡ true
+  off_went : (x : Result (Unit {0}) Refusal) → went_by x s.on (clear_addrs t).any ≡ true
       → ((off_by x s t routes c q i).queue ≡ (purge_by x q (on_iface i)).queue) × ((off_by x s t routes c q i).handles ≡ (purge_by x q (on_iface i)).handles)
   unfolding off_now purged_of
-  off_went (Fails why) w = absurd (true≢false (sym w))
-  off_went Fine w = go s.on (clear_addrs t).any refl w
+  off_went (Err why) w = absurd (true≢false (sym w))
+  off_went (Ok tt) w = go s.on (clear_addrs t).any refl w
     where
       after : Bool → TurnedOff
-      after b = cond b (off_now t routes c q i) (left_alone s t routes c q Done)
+      after b = cond b (off_now t routes c q i) (left_alone s t routes c q (Ok tt))
 
       go : (b went : Bool) → (clear_addrs t).any ≡ went → cond b went false ≡ true
           → ((after b).queue ≡ (purged_of q (on_iface i)).queue) × ((after b).handles ≡ (purged_of q (on_iface i)).handles)
@@ -159,13 +156,13 @@ module _ (s : Slaac) (t : IfaceAddrs) (routes : Routes) (c : NeighborCache) (q :
       go true false e w = absurd (true≢false (sym w))
       go false went e w = absurd (true≢false (sym w))
 
-  off_stayed : (x : Check) → went_by x s.on (clear_addrs t).any ≡ false → ((off_by x s t routes c q i).queue ≡ q) × ((off_by x s t routes c q i).handles ≡ no_handle)
+  off_stayed : (x : Result (Unit {0}) Refusal) → went_by x s.on (clear_addrs t).any ≡ false → ((off_by x s t routes c q i).queue ≡ q) × ((off_by x s t routes c q i).handles ≡ no_handle)
   unfolding off_now
-  off_stayed (Fails why) w = (refl, refl)
-  off_stayed Fine w = go s.on (clear_addrs t).any refl w
+  off_stayed (Err why) w = (refl, refl)
+  off_stayed (Ok tt) w = go s.on (clear_addrs t).any refl w
     where
       after : Bool → TurnedOff
-      after b = cond b (off_now t routes c q i) (left_alone s t routes c q Done)
+      after b = cond b (off_now t routes c q i) (left_alone s t routes c q (Ok tt))
 
       go : (b went : Bool) → (clear_addrs t).any ≡ went → cond b went false ≡ false → ((after b).queue ≡ q) × ((after b).handles ≡ no_handle)
       go true true e w = absurd (true≢false w)

@@ -3,6 +3,7 @@ use borrow.Author.Tests.{lt-leb, ltb-true}
 use mathlib.Core.Bool.{true}
 use mathlib.Core.List.{List, [], ◌∷◌}
 use mathlib.Core.Path.{◌≡◌, refl, sym, ◌∙◌, subst}
+use Rattle.std.specs.Prelude.{Option, Some}
 use Rattle.slaac.specs.ExpiryRules.{ask_also, ask_prefix, ask_router}
 use Rattle.slaac.specs.LearnedRules.{prefixes_of, routers_of}
 use Rattle.slaac.specs.declared.Prefix.{Prefix}
@@ -14,8 +15,6 @@ use Rattle.time.specs.ClockRules.{asked_end, is_after}
 use Rattle.time.specs.Forward.{NotLater, Forward}
 use Rattle.time.specs.declared.Answer.{Answer}
 use Rattle.time.specs.declared.Clock.{Clock}
-use Rattle.time.specs.declared.Deadline.TheVariants.{At}
-use Rattle.time.specs.declared.Deadline.{Deadline}
 use Rattle.time.specs.declared.Expiry.TheVariants.{At as EndsAt, Forever}
 use Rattle.time.specs.declared.Expiry.{Expiry}
 use Rattle.time.specs.declared.Instant.{Instant}
@@ -24,12 +23,12 @@ use Rattle.claims.specs.Lists.{All}
 
 -- One end
 
-abbrev pub Covered : Deadline → Expiry → Type 0
-Covered d (EndsAt t) = NotLater d (At t)
+abbrev pub Covered : Option Instant → Expiry → Type 0
+Covered d (EndsAt t) = NotLater d (Some t)
 Covered d Forever = Unit {0}
 
-covered_sooner : (a b : Deadline) (e : Expiry) → NotLater a b → Covered b e → Covered a e
-covered_sooner a b (EndsAt t) h c = after a b (At t) h c
+covered_sooner : (a b : Option Instant) (e : Expiry) → NotLater a b → Covered b e → Covered a e
+covered_sooner a b (EndsAt t) h c = after a b (Some t) h c
 covered_sooner a b Forever h c = tt
 
 asked_covers : (c : Clock) (e : Expiry) → is_after e c.now ≡ true → Covered (asked_end c e).clock.deadline e

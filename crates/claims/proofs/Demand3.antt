@@ -7,6 +7,8 @@ use mathlib.Core.Bool.{Bool, true, false, cond, not, ◌&&◌, ◌||◌, true≢
 use mathlib.Core.List.{List, [], ◌∷◌, ◌++◌, map, append_assoc}
 use mathlib.Core.Path.{◌≡◌, refl, sym, ap, ◌∙◌, subst}
 use native.Mathlib.Omega.{arith}
+use Rattle.std.specs.Prelude.{Result, Ok, Err}
+use Rattle.wire.specs.declared.error.Refusal.{Refusal}
 use Rattle.claims.proofs.Calls.{InTime, called_in_time, distinct_next, fits_next, others_keep, evicted_only, call_told, trace_told, trace_watch, trace_run}
 use Rattle.claims.proofs.Lists.{or_none}
 use Rattle.claims.proofs.Sweep.{sweep_entries, sweep_tells, ample, not_yet}
@@ -23,8 +25,6 @@ use Rattle.neighbor.specs.declared.State.{State}
 use Rattle.sweep.specs.SweepRules.{expire_state}
 use Rattle.table.specs.Table.{kept}
 use Rattle.time.specs.declared.Instant.{Instant}
-use Rattle.wire.specs.declared.error.Check.TheVariants.{Fine, Refused as Fails}
-use Rattle.wire.specs.declared.error.Check.{Check}
 
 -- tables that the calls made
 made : (cs : List Call) (t : Table) → Distinct t → length t ≤ 16 → Distinct (table_after cs t) × (length (table_after cs t) ≤ 16)
@@ -48,16 +48,16 @@ stays : (k : Key) (c : Call) (t : Table) → Distinct t → owns k c ≡ false �
 stays k c t d own sw kept = record { reports = call_told k c t d ∙ silent k c t sw; leaves = others_keep k c t d own sw kept }
 
 -- a call that is taken, by what it means
-acts : (k : Key) (c : Call) (t : Table) (rs : List Report) (ss : List State) → check c ≡ Fine
+acts : (k : Key) (c : Call) (t : Table) (rs : List Report) (ss : List State) → check c ≡ Ok tt
     → reports_in k (reply c t) ≡ rs → entries_of k (does (if_taken c) t) ≡ ss → Gives k c t rs ss
 acts k c t rs ss ok hr hs = record { reports = rw ok hr; leaves = rw ok hs }
 
 -- a sweep that is taken is in time
-punctual : (i : ℕ) (now : Instant) → check (sweep i now) ≡ Fine → now.0 ≤ 2 ^ 62
-punctual i now ok = subst (λ (x : Check). InTime (effect_by x (sweep i now))) ok (called_in_time (sweep i now))
+punctual : (i : ℕ) (now : Instant) → check (sweep i now) ≡ Ok tt → now.0 ≤ 2 ^ 62
+punctual i now ok = subst (λ (x : Result (Unit {0}) Refusal). InTime (effect_by x (sweep i now))) ok (called_in_time (sweep i now))
 
 -- a sweep, by the states that k had
-swept_to : (k : Key) (i : ℕ) (now : Instant) (t : Table) (l : List State) (rs : List Report) (ss : List State) → Distinct t → check (sweep i now) ≡ Fine
+swept_to : (k : Key) (i : ℕ) (now : Instant) (t : Table) (l : List State) (rs : List Report) (ss : List State) → Distinct t → check (sweep i now) ≡ Ok tt
     → entries_of k t ≡ l
     → tell_states (eqb i k.iface) now (map (expire_state now) l) ≡ rs
     → visit_states (eqb i k.iface) now (map (expire_state now) l) ≡ ss
@@ -70,7 +70,7 @@ test_false : (own late : Bool) → late ≡ false → (own && late) ≡ false
 test_false true late h = h
 test_false false late h = refl
 
-first : (k : Key) (i : ℕ) (now : Instant) (t : Table) → Distinct t → check (sweep i now) ≡ Fine → entries_of k t ≡ Started ∷ []
+first : (k : Key) (i : ℕ) (now : Instant) (t : Table) → Distinct t → check (sweep i now) ≡ Ok tt → entries_of k t ≡ Started ∷ []
     → Gives k (sweep i now) t [] (Incomplete 1 (later now 1000) ∷ [])
 first k i now t d ok h =
     swept_to k i now t (Started ∷ []) [] (Incomplete 1 (later now 1000) ∷ []) d ok h
@@ -260,7 +260,7 @@ pub distinct_after : (cs : List Call) (t : Table) → Distinct t → Distinct (t
 distinct_after [] t d = d
 distinct_after (c ∷ cs) t d = distinct_after cs (next c t) (distinct_next c t d)
 
-no_sooner : (k : Key) (i j : ℕ) (begun now : Instant) (cs : List Call) (t : Table) → Distinct t → check (sweep i begun) ≡ Fine → entries_of k t ≡ Started ∷ []
+no_sooner : (k : Key) (i j : ℕ) (begun now : Instant) (cs : List Call) (t : Table) → Distinct t → check (sweep i begun) ≡ Ok tt → entries_of k t ≡ Started ∷ []
     → Alone k cs → Kept k cs (next (sweep i begun) t) → reports_in k (answer (sweep j now) (table_after cs (next (sweep i begun) t))) ≡ failure ∷ []
     → begun.0 + 3000 ≤ now.0
 no_sooner k i j begun now cs t d ok h al kept e = go (check (sweep j now)) (sym (call_told k (sweep j now) u (distinct_after cs next_t (distinct_next (sweep i begun) t d))) ∙ e)
@@ -277,9 +277,9 @@ no_sooner k i j begun now cs t d ok h al kept e = go (check (sweep j now)) (sym 
     behind : Behind begun (watch_of (entries_of k u))
     behind = subst (Behind begun) (sym under_way_lem) (run_behind begun k cs (due_at 1 (later begun 1000)) al (omega arith))
 
-    go : (x : Check) → told_effect k (effect_by x (sweep j now)) (watch_of (entries_of k u)) ≡ failure ∷ [] → begun.0 + 3000 ≤ now.0
-    go (Fails why) r = absurd (true≢false (sym (ap ends_it r)))
-    go Fine r = fails_late begun (eqb j k.iface) now (watch_of (entries_of k u)) behind r
+    go : (x : Result (Unit {0}) Refusal) → told_effect k (effect_by x (sweep j now)) (watch_of (entries_of k u)) ≡ failure ∷ [] → begun.0 + 3000 ≤ now.0
+    go (Err why) r = absurd (true≢false (sym (ap ends_it r)))
+    go (Ok tt) r = fails_late begun (eqb j k.iface) now (watch_of (entries_of k u)) behind r
 
 pub demand3 : Demand3
 unfolding check

@@ -5,16 +5,19 @@ use mathlib.Core.Path.{◌≡◌, ap, sym, ◌∙◌}
 use Rattle.claims.specs.Determined.{Determined, OneAnswerLeaving}
 use Rattle.script.specs.CardRules.{listed_text}
 use Rattle.script.specs.StepRules.{StepTo}
+use Rattle.script.specs.declared.card.After.{After}
 use Rattle.script.specs.declared.card.Card.{Card}
 use Rattle.script.specs.declared.reading.Want.{Want}
 use Rattle.table.specs.Table.{filled}
-use Rattle.text.specs.Addresses.{bytes_of, MessageRead}
+use Rattle.text.specs.Addresses.{MessageRead}
+use Rattle.text.specs.Hex.{bytes_of}
 use Rattle.text.specs.Place.{Put}
-use Rattle.text.specs.declared.address.Message.{Message}
+use Rattle.text.specs.declared.print.Text.{Text}
+use Rattle.std.specs.Prelude.{Option}
 
 -- a message goes into its buffer by the answer
 read : (field out : List ℕ) → OneAnswerLeaving (MessageRead field out)
-read field out r r' left left' h h' = (e, h.bytes ∙ ap (λ (x : Message). filled out (bytes_of x field)) e ∙ sym h'.bytes)
+read field out r r' left left' h h' = (e, h.bytes ∙ ap (λ (x : Option ℕ). filled out (bytes_of x field)) e ∙ sym h'.bytes)
   where
     e : r ≡ r'
     e = h.is ∙ sym h'.is
@@ -22,12 +25,13 @@ read field out r r' left left' h h' = (e, h.bytes ∙ ap (λ (x : Message). fill
 put : (out : List ℕ) (at : ℕ) (text : List ℕ) → OneAnswerLeaving (Put out at text)
 put out at text r r' left left' h h' = (h.next ∙ sym h'.next, h.is ∙ sym h'.is)
 
-stepped : (want : Want) (card : Card) (line out : List ℕ) (at : ℕ) → OneAnswerLeaving (StepTo want card line out at)
-stepped want card line out at r r' left left' h h' = (
-  ap (λ (x : Want). record { want = x; card = r.card; at = r.at }) (h.is.want ∙ sym h'.is.want)
-      ∙ ap (λ (x : Card). record { want = r'.want; card = x; at = r.at }) (h.is.card ∙ sym h'.is.card)
-      ∙ ap (λ (x : ℕ). record { want = r'.want; card = r'.card; at = x }) (h.is.put.next ∙ sym h'.is.put.next),
+stepped : (want : Want) (card : Card) (line : List ℕ) (out : Text) (r r' : After) (left left' : Text) → StepTo want card line out r left
+    → StepTo want card line out r' left' → (r ≡ r') × (left.buf.now ≡ left'.buf.now) × (left.at ≡ left'.at)
+stepped want card line out r r' left left' h h' = (
+  ap (λ (x : Want). record { want = x; card = r.card }) (h.is.want ∙ sym h'.is.want)
+      ∙ ap (λ (x : Card). record { want = r'.want; card = x }) (h.is.card ∙ sym h'.is.card),
   h.is.put.is ∙ sym h'.is.put.is,
+  h.is.put.next ∙ sym h'.is.put.next,
 )
 
 pub determined : Determined
@@ -76,7 +80,7 @@ determined =
       turn = λ card woken received hw buf r r' left left' h h'. (h.is ∙ sym h'.is, h.leaves ∙ sym h'.leaves);
       run = λ card wake inbox received hw buf budget r r' left left' h h'. (h.is ∙ sym h'.is, h.leaves ∙ sym h'.leaves);
       read_message = read;
-      find = λ bytes wanted r r' h h'. h.is ∙ sym h'.is;
+      find = λ bytes wanted r r' h h'. h ∙ sym h';
       print = put;
       parse_event = λ line message r r' left left' h h'. (h.is ∙ sym h'.is, h.bytes ∙ sym h'.bytes);
       listing = λ text most out at r r' left left' h h'. put out at text r r' left left' h.put h'.put;

@@ -4,6 +4,8 @@ use mathlib.Core.Bool.{Bool, true, false, cond, true≢false}
 use mathlib.Core.List.{List, [], ◌∷◌, ◌++◌}
 use mathlib.Core.Path.{◌≡◌, refl, sym, ap, ◌∙◌, subst}
 use native.Mathlib.Omega.{arith}
+use Rattle.std.specs.Prelude.{Result, Ok, Err}
+use Rattle.wire.specs.declared.error.Refusal.{Refusal}
 use Rattle.claims.proofs.Keeps.{Keeps, keep_run}
 use Rattle.claims.proofs.Lists.{entries_with, all_of, all_weaken}
 use Rattle.claims.proofs.Standing.{put_stands, drop_stands, add_stands, same_cidr_lem, at_once, learned_all, leave_all, options_routers, put_route_stands, drop_route_stands, clear_route_stands, add_route_stands, process_router_lem, leave_router, expired_other, expired_router}
@@ -32,8 +34,6 @@ use Rattle.time.specs.declared.Expiry.TheVariants.{At, Forever}
 use Rattle.time.specs.declared.Expiry.{Expiry}
 use Rattle.time.specs.declared.Instant.{Instant}
 use Rattle.wire.specs.Rfc2464.{formed_of}
-use Rattle.wire.specs.declared.error.Check.TheVariants.{Fine, Refused as Fails}
-use Rattle.wire.specs.declared.error.Check.{Check}
 use Rattle.wire.specs.declared.ethernet.HardwareAddress.{HardwareAddress}
 use Rattle.wire.specs.declared.ipv6.Formed.TheVariants.{Nothing, Addr}
 use Rattle.wire.specs.declared.ipv6.Formed.{Formed}
@@ -79,9 +79,9 @@ module _ (v : Expiry) (hw : HardwareAddress) (a : Ipv6Cidr) where
     there : stands a (addrs_of t) ≡ true
     long : All lasts (prefixes_of s)
 
-  good_added : (x : Check) (s : Slaac) (t : IfaceAddrs) (c : Ipv6Cidr) → Good s t → Good s (add_addr_by x t c).addrs
-  good_added (Fails why) s t c g = g
-  good_added Fine s t c g =
+  good_added : (x : Result (Unit {0}) Refusal) (s : Slaac) (t : IfaceAddrs) (c : Ipv6Cidr) → Good s t → Good s (add_addr_by x t c).addrs
+  good_added (Err why) s t c g = g
+  good_added (Ok tt) s t c g =
       record { there = stands_with t (addrs_of t ++ (manual_addr c ∷ [])) (add_stands a (manual_addr c) (addrs_of t) g.there); long = g.long }
 
   good : (i : ℕ) → Keeps i hw (Harmless i v hw a) (λ s t r. Good s t)
@@ -129,9 +129,9 @@ module _ (i : ℕ) (via : Ipv6Addr) where
   sync_routers j now [] t o h = h
   sync_routers j now (r ∷ rs) t o h = sync_routers j now rs (sync_router j now t r) o.1 (sync_router_lem j now t r o.0 h)
 
-  route_added_to : (x : Check) (t : Routes) (e : Route) → route_stands i via (routes_of t) ≡ true → route_stands i via (routes_of (add_route_by x t e).routes) ≡ true
-  route_added_to (Fails why) t e h = h
-  route_added_to Fine t e h = route_with t (routes_of t ++ (e ∷ [])) (add_route_stands i via e (routes_of t) h)
+  route_added_to : (x : Result (Unit {0}) Refusal) (t : Routes) (e : Route) → route_stands i via (routes_of t) ≡ true → route_stands i via (routes_of (add_route_by x t e).routes) ≡ true
+  route_added_to (Err why) t e h = h
+  route_added_to (Ok tt) t e h = route_with t (routes_of t ++ (e ∷ [])) (add_route_stands i via e (routes_of t) h)
 
 -- The routers
 

@@ -7,6 +7,8 @@ use mathlib.Core.Bool.{Bool, true, false, cond, true≢false}
 use mathlib.Core.List.{List, [], ◌∷◌, map}
 use mathlib.Core.Path.{◌≡◌, refl, sym, ap, ◌∙◌}
 use native.Mathlib.Omega.{arith}
+use Rattle.std.specs.Prelude.{Result, Ok, Err}
+use Rattle.wire.specs.declared.error.Refusal.{Refusal}
 use Rattle.autoconf.specs.OffRules.{TurnedOffTo, turned_off, cleared_cache, cleared_queue, cleared_handles, off_now, left_alone, off_by}
 use Rattle.autoconf.specs.declared.TurnedOff.{TurnedOff}
 use Rattle.claims.proofs.Counts.{goes_parts}
@@ -39,10 +41,6 @@ use Rattle.slaac.specs.declared.Slaac.{Slaac}
 use Rattle.table.proofs.Kept.{kept_either, dropped_apart, kept_in_order, in_order_only}
 use Rattle.table.specs.Table.{filled, kept, dropped}
 use Rattle.wire.specs.Refusals.{iface_check}
-use Rattle.wire.specs.declared.error.Check.TheVariants.{Fine, Refused as Fails}
-use Rattle.wire.specs.declared.error.Check.{Check}
-use Rattle.wire.specs.declared.error.Outcome.TheVariants.{Refused, Done}
-use Rattle.wire.specs.declared.error.Outcome.{Outcome}
 use Rattle.wire.specs.declared.error.Refusal.TheVariants.{NoSuchIface}
 
 -- Any table, of which some entries went by one test, and then some by another
@@ -126,28 +124,28 @@ often h q a b p o =
 
 -- Clearing and purging, of what their promises allow
 
-abbrev fine : Check → Bool
-fine (Fails why) = false
-fine Fine = true
+abbrev fine : Result (Unit {0}) Refusal → Bool
+fine (Err why) = false
+fine (Ok tt) = true
 
-abbrev outcome_of : Check → Outcome
-outcome_of (Fails why) = Refused why
-outcome_of Fine = Done
+abbrev outcome_of : Result (Unit {0}) Refusal → Result (Unit {0}) Refusal
+outcome_of (Err why) = Err why
+outcome_of (Ok tt) = Ok tt
 
-cleared_by : (x : Check) (c : NeighborCache) (a : ℕ) → change_by x c (clear_in c a) ≡ record { cache = cleared_cache (fine x) c a; outcome = outcome_of x }
-cleared_by (Fails why) c a = refl
-cleared_by Fine c a = refl
+cleared_by : (x : Result (Unit {0}) Refusal) (c : NeighborCache) (a : ℕ) → change_by x c (clear_in c a) ≡ record { cache = cleared_cache (fine x) c a; outcome = outcome_of x }
+cleared_by (Err why) c a = refl
+cleared_by (Ok tt) c a = refl
 
-purged_by : (x : Check) (q : PendingQueue) (a : ℕ)
+purged_by : (x : Result (Unit {0}) Refusal) (q : PendingQueue) (a : ℕ)
     → purge_by x q (on_iface a) ≡ record { queue = cleared_queue (fine x) q a; handles = cleared_handles (fine x) q a; outcome = outcome_of x }
 unfolding purged_of
-purged_by (Fails why) q a = refl
-purged_by Fine q a = refl
+purged_by (Err why) q a = refl
+purged_by (Ok tt) q a = refl
 
-fine_at : (a : ℕ) → a ≤ 3 → iface_check a ≡ Fine
+fine_at : (a : ℕ) → a ≤ 3 → iface_check a ≡ Ok tt
 fine_at a h = rw (le-ltb 3 a h) refl
 
-refused_at : (a : ℕ) → 3 < a → iface_check a ≡ Fails NoSuchIface
+refused_at : (a : ℕ) → 3 < a → iface_check a ≡ Err NoSuchIface
 refused_at a h = rw (lt-ltb 3 a h) refl
 
 -- Twice
@@ -156,23 +154,23 @@ clear_twice : (c : NeighborCache) (a : ℕ) → clear_in (clear_in c a) a ≡ cl
 clear_twice c a =
     λ i. record { slots = twice_slots c.slots c.len (entryOnIface a) i; len = twice_count c.slots c.len (entryOnIface a) i }
 
-cache_twice : (x : Check) (c : NeighborCache) (a : ℕ)
+cache_twice : (x : Result (Unit {0}) Refusal) (c : NeighborCache) (a : ℕ)
     → change_by x (change_by x c (clear_in c a)).cache (clear_in (change_by x c (clear_in c a)).cache a) ≡ change_by x c (clear_in c a)
-cache_twice (Fails why) c a = refl
-cache_twice Fine c a = λ i. record { cache = clear_twice c a i; outcome = Done }
+cache_twice (Err why) c a = refl
+cache_twice (Ok tt) c a = λ i. record { cache = clear_twice c a i; outcome = Ok tt }
 
-abbrev handed_none : PendingQueue → Outcome → Purged
+abbrev handed_none : PendingQueue → Result (Unit {0}) Refusal → Purged
 handed_none q o = record { queue = q; handles = no_handle; outcome = o }
 
-purged_twice : (q : PendingQueue) (goes : PendingPacket → Bool) → purged_of (purged_of q goes).queue goes ≡ handed_none (purged_of q goes).queue Done
+purged_twice : (q : PendingQueue) (goes : PendingPacket → Bool) → purged_of (purged_of q goes).queue goes ≡ handed_none (purged_of q goes).queue (Ok tt)
 unfolding purged_of
-purged_twice q goes = λ i. record { queue = purge_queue q goes i; handles = purge_none q goes i; outcome = Done }
+purged_twice q goes = λ i. record { queue = purge_queue q goes i; handles = purge_none q goes i; outcome = Ok tt }
 
-queue_twice : (x : Check) (q : PendingQueue) (goes : PendingPacket → Bool)
+queue_twice : (x : Result (Unit {0}) Refusal) (q : PendingQueue) (goes : PendingPacket → Bool)
     → purge_by x (purge_by x q goes).queue goes ≡ handed_none (purge_by x q goes).queue (purge_by x q goes).outcome
 unfolding purged_of
-queue_twice (Fails why) q goes = refl
-queue_twice Fine q goes = purged_twice q goes
+queue_twice (Err why) q goes = refl
+queue_twice (Ok tt) q goes = purged_twice q goes
 
 -- What stays, and in which order
 
@@ -193,54 +191,54 @@ packets_order q goes =
 -- Turning SLAAC off
 
 -- what it leaves and hands back, by whether it is carried out, and whether an address went
-abbrev turned : Check → Slaac → Bool
+abbrev turned : Result (Unit {0}) Refusal → Slaac → Bool
 turned x s = cond (fine x) s.on false
 
-abbrev slaac_by : Check → Slaac → Slaac
+abbrev slaac_by : Result (Unit {0}) Refusal → Slaac → Slaac
 slaac_by x s = cond (turned x s) (fresh false) s
 
-abbrev addrs_by : Check → Slaac → IfaceAddrs → IfaceAddrs
+abbrev addrs_by : Result (Unit {0}) Refusal → Slaac → IfaceAddrs → IfaceAddrs
 addrs_by x s t = cond (turned x s) (clear_addrs t).addrs t
 
-abbrev off_is : Check → Own → Routes → NeighborCache → PendingQueue → ℕ → TurnedOff
+abbrev off_is : Result (Unit {0}) Refusal → Own → Routes → NeighborCache → PendingQueue → ℕ → TurnedOff
 off_is x m r c q i =
     turned_off (slaac_by x m.slaac) (addrs_by x m.slaac m.addrs) (cleared_routes (turned x m.slaac) r i)
     (cleared_cache (went_by x m.slaac.on (clear_addrs m.addrs).any) c i) (cleared_queue (went_by x m.slaac.on (clear_addrs m.addrs).any) q i)
     (cleared_handles (went_by x m.slaac.on (clear_addrs m.addrs).any) q i) (outcome_of x)
 
-off_is_lem : (x : Check) (m : Own) (r : Routes) (c : NeighborCache) (q : PendingQueue) (i : ℕ) → off_by x m.slaac m.addrs r c q i ≡ off_is x m r c q i
+off_is_lem : (x : Result (Unit {0}) Refusal) (m : Own) (r : Routes) (c : NeighborCache) (q : PendingQueue) (i : ℕ) → off_by x m.slaac m.addrs r c q i ≡ off_is x m r c q i
 unfolding off_now
-off_is_lem (Fails why) m r c q i = refl
-off_is_lem Fine m r c q i = go m.slaac.on
+off_is_lem (Err why) m r c q i = refl
+off_is_lem (Ok tt) m r c q i = go m.slaac.on
   where
     go : (b : Bool)
-        → cond {A = TurnedOff} b (off_now m.addrs r c q i) (left_alone m.slaac m.addrs r c q Done)
+        → cond {A = TurnedOff} b (off_now m.addrs r c q i) (left_alone m.slaac m.addrs r c q (Ok tt))
         ≡ turned_off (cond b (fresh false) m.slaac) (cond b (clear_addrs m.addrs).addrs m.addrs) (cleared_routes b r i)
         (cleared_cache (cond b (clear_addrs m.addrs).any false) c i) (cleared_queue (cond b (clear_addrs m.addrs).any false) q i)
-        (cleared_handles (cond b (clear_addrs m.addrs).any false) q i) Done
+        (cleared_handles (cond b (clear_addrs m.addrs).any false) q i) (Ok tt)
     go true = refl
     go false = refl
 
-off_twice : (x : Check) (s : Slaac) (t : IfaceAddrs) (r : Routes) (c : NeighborCache) (q : PendingQueue) (i : ℕ) (y : TurnedOff) → y ≡ off_by x s t r c q i
+off_twice : (x : Result (Unit {0}) Refusal) (s : Slaac) (t : IfaceAddrs) (r : Routes) (c : NeighborCache) (q : PendingQueue) (i : ℕ) (y : TurnedOff) → y ≡ off_by x s t r c q i
     → off_by x y.slaac y.addrs y.routes y.cache y.queue i
     ≡ turned_off y.slaac y.addrs y.routes y.cache y.queue no_handle y.outcome
 unfolding off_now
-off_twice (Fails why) s t r c q i y h = rw h refl
-off_twice Fine s t r c q i y h = go s.on refl y h
+off_twice (Err why) s t r c q i y h = rw h refl
+off_twice (Ok tt) s t r c q i y h = go s.on refl y h
   where
-    go : (b : Bool) → s.on ≡ b → (y : TurnedOff) → y ≡ cond b (off_now t r c q i) (left_alone s t r c q Done)
-        → off_by Fine y.slaac y.addrs y.routes y.cache y.queue i
+    go : (b : Bool) → s.on ≡ b → (y : TurnedOff) → y ≡ cond b (off_now t r c q i) (left_alone s t r c q (Ok tt))
+        → off_by (Ok tt) y.slaac y.addrs y.routes y.cache y.queue i
         ≡ turned_off y.slaac y.addrs y.routes y.cache y.queue no_handle y.outcome
     go true e y g = rw g refl
     go false e y g = rw (g, e) refl
 
-went_clears : (x : Check) (on any : Bool) (c : NeighborCache) (i : ℕ) → went_by x on any ≡ true → cleared_cache (went_by x on any) c i ≡ cleared_cache (fine x) c i
-went_clears (Fails why) on any c i h = absurd (true≢false (sym h))
-went_clears Fine on any c i h = rw h refl
+went_clears : (x : Result (Unit {0}) Refusal) (on any : Bool) (c : NeighborCache) (i : ℕ) → went_by x on any ≡ true → cleared_cache (went_by x on any) c i ≡ cleared_cache (fine x) c i
+went_clears (Err why) on any c i h = absurd (true≢false (sym h))
+went_clears (Ok tt) on any c i h = rw h refl
 
-off_stays : (x : Check) (s : Slaac) (r : Routes) (i : ℕ) → s.on ≡ false → cleared_routes (turned x s) r i ≡ r
-off_stays (Fails why) s r i h = refl
-off_stays Fine s r i h = rw h refl
+off_stays : (x : Result (Unit {0}) Refusal) (s : Slaac) (r : Routes) (i : ℕ) → s.on ≡ false → cleared_routes (turned x s) r i ≡ r
+off_stays (Err why) s r i h = refl
+off_stays (Ok tt) s r i h = rw h refl
 
 routes_order : (r : Routes) (c : NeighborCache) (q : PendingQueue) (a : ℕ) (m : Own) (x : TurnedOff) → a ≤ 3 → m.slaac.on ≡ true
     → TurnedOffTo m.slaac m.addrs r c q a x → KeepsOrder (is_learned a) (routes_of r) (routes_of x.routes)
@@ -298,11 +296,11 @@ packets_only gone before after after' hs gs h g =
 
 -- the scenes, each computed
 
-waits_on : OrphansPurged one_waits resolving (record { queue = one_waits; handles = no_handle; outcome = Done })
+waits_on : OrphansPurged one_waits resolving (record { queue = one_waits; handles = no_handle; outcome = Ok tt })
 unfolding purged_of orphaned dropped_handles same_key
 waits_on = record { is = refl; number = refl }
 
-comes_back : OrphansPurged one_waits noNeighbours (record { queue = none_waits; handles = one_handle 7; outcome = Done })
+comes_back : OrphansPurged one_waits noNeighbours (record { queue = none_waits; handles = one_handle 7; outcome = Ok tt })
 unfolding purged_of orphaned dropped_handles
 comes_back = record { is = refl; number = refl }
 

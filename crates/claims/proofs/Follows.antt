@@ -6,6 +6,8 @@ use mathlib.Core.Bool.{Bool, true, false, cond, true≢false}
 use mathlib.Core.List.{List, [], ◌∷◌, ◌++◌, map, append_assoc}
 use mathlib.Core.Path.{◌≡◌, refl, sym, ap, ◌∙◌, subst}
 use native.Mathlib.Omega.{arith}
+use Rattle.std.specs.Prelude.{None, Result, Ok, Err}
+use Rattle.wire.specs.declared.error.Refusal.{Refusal}
 use Rattle.autoconf.specs.OffRules.{cleared_queue, cleared_handles, off_now, left_alone, off_by}
 use Rattle.autoconf.specs.declared.TurnedOff.{TurnedOff}
 use Rattle.claims.proofs.Caches.{follows as cache-follows}
@@ -28,20 +30,16 @@ use Rattle.pending.specs.declared.PendingQueue.{PendingQueue}
 use Rattle.pending.specs.declared.Pushed.{Pushed}
 use Rattle.pending.specs.declared.Purged.{Purged}
 use Rattle.pending.specs.declared.Released.{Released}
-use Rattle.pending.specs.declared.Release.TheVariants.{Nothing}
 use Rattle.slaac.specs.declared.Slaac.{Slaac}
 use Rattle.table.proofs.Kept.{kept_map}
 use Rattle.table.specs.Table.{at_first_is, any_of, first_of, kept, dropped}
 use Rattle.wire.specs.Refusals.{iface_check}
-use Rattle.wire.specs.declared.error.Check.TheVariants.{Fine, Refused as Fails}
-use Rattle.wire.specs.declared.error.Check.{Check}
-use Rattle.wire.specs.declared.error.Outcome.TheVariants.{Done}
 
 -- The queue without numbers: what a move leaves of it, and what it hands back
 
-abbrev queue_by : Check → Queue → Queue → Queue
-queue_by (Fails why) q x = q
-queue_by Fine q x = x
+abbrev queue_by : Result (Unit {0}) Refusal → Queue → Queue → Queue
+queue_by (Err why) q x = q
+queue_by (Ok tt) q x = x
 
 abbrev pub queue_next : Move → Table → Queue → Queue
 queue_next (on_cache c) t q = kept (cleared_by_is c) q
@@ -74,10 +72,10 @@ over_map true [] = refl
 over_map true (x ∷ ns) = refl
 over_map false ns = refl
 
-queue_stays : (x : Parted) (ns : List Numbered) (c : Check) (q : Queue) → queue_of x.stay ≡ q
+queue_stays : (x : Parted) (ns : List Numbered) (c : Result (Unit {0}) Refusal) (q : Queue) → queue_of x.stay ≡ q
     → queue_of ((unless_refused c ns x).stay ++ []) ≡ queue_by c (queue_of ns) q
-queue_stays x ns (Fails why) q h = ap queue_of (append-nil ns)
-queue_stays x ns Fine q h = ap queue_of (append-nil x.stay) ∙ h
+queue_stays x ns (Err why) q h = ap queue_of (append-nil ns)
+queue_stays x ns (Ok tt) q h = ap queue_of (append-nil x.stay) ∙ h
 
 pub queue_next_lem : (m : Move) (t : Table) (l : Ledger) → queue_of (ledger_next m t l).waiting ≡ queue_next m t (queue_of l.waiting)
 unfolding push_list release_list
@@ -87,11 +85,11 @@ queue_next_lem (push k h) t l = go (iface_check k.iface)
     ns : List Numbered
     ns = l.waiting
 
-    go : (c : Check)
+    go : (c : Result (Unit {0}) Refusal)
         → queue_of ((unless_refused c ns (overflow ns)).stay ++ number_from l.coming (unless c (packet k h ∷ [])))
         ≡ queue_by c (queue_of ns) (push_list queue_room (packet k h) (queue_of ns))
-    go (Fails why) = ap queue_of (append-nil ns)
-    go Fine =
+    go (Err why) = ap queue_of (append-nil ns)
+    go (Ok tt) =
         map_append packet_of (cond (is_full_of ns) (drop 1 ns) ns) (number_from l.coming (packet k h ∷ []))
         ∙ ap (λ (q : Queue). q ++ (packet k h ∷ [])) (over_map (is_full_of ns) ns)
 queue_next_lem (release k) t l =
@@ -138,9 +136,9 @@ over_handed [] true e = absurd (true≢false (sym e))
 over_handed (x ∷ ns) true e = refl
 over_handed ns false e = refl
 
-taken_handed : (x : Parted) (ns : List Numbered) (c : Check) (hs : List ℕ) → handed x.leave ≡ hs → handed (unless_refused c ns x).leave ≡ unless c hs
-taken_handed x ns (Fails why) hs h = refl
-taken_handed x ns Fine hs h = h
+taken_handed : (x : Parted) (ns : List Numbered) (c : Result (Unit {0}) Refusal) (hs : List ℕ) → handed x.leave ≡ hs → handed (unless_refused c ns x).leave ≡ unless c hs
+taken_handed x ns (Err why) hs h = refl
+taken_handed x ns (Ok tt) hs h = h
 
 gives_next_lem : (m : Move) (t : Table) (ns : List Numbered) → handed (parted m t ns).leave ≡ gives_next m t (queue_of ns)
 gives_next_lem (on_cache c) t ns = out_handed by_off (cleared_by_is c) ns
@@ -191,19 +189,19 @@ abbrev LeftBy : Bool → PendingQueue → ℕ → TurnedOff → Type 0
 LeftBy went q i x =
     (packets x.queue ≡ kept (cleared_by_is (turn_off i went)) (packets q)) × (handle_list x.handles ≡ map handle_of (dropped (cleared_by_is (turn_off i went)) (packets q)))
 
-turned_off : (x : Check) (s : Slaac) (t : IfaceAddrs) (r : Routes) (c : NeighborCache) (q : PendingQueue) (i : ℕ)
+turned_off : (x : Result (Unit {0}) Refusal) (s : Slaac) (t : IfaceAddrs) (r : Routes) (c : NeighborCache) (q : PendingQueue) (i : ℕ)
     → LeftBy (went_by x s.on (clear_addrs t).any) q i (off_by x s t r c q i)
 unfolding off_now
-turned_off (Fails why) s t r c q i = (cleared_off false q i, handed_off false q i)
-turned_off Fine s t r c q i = go s.on
+turned_off (Err why) s t r c q i = (cleared_off false q i, handed_off false q i)
+turned_off (Ok tt) s t r c q i = go s.on
   where
-    go : (b : Bool) → LeftBy (cond b (clear_addrs t).any false) q i (cond {A = TurnedOff} b (off_now t r c q i) (left_alone s t r c q Done))
+    go : (b : Bool) → LeftBy (cond b (clear_addrs t).any false) q i (cond {A = TurnedOff} b (off_now t r c q i) (left_alone s t r c q (Ok tt)))
     go true = (cleared_off (clear_addrs t).any q i, handed_off (clear_addrs t).any q i)
     go false = (cleared_off false q i, handed_off false q i)
 
-pushed_to : (x : Check) (q : PendingQueue) (p : PendingPacket) → packets (push_by x q p).queue ≡ queue_by x (packets q) (push_list queue_room p (packets q))
-pushed_to (Fails why) q p = refl
-pushed_to Fine q p = packets_of q (push_list queue_room p (packets q))
+pushed_to : (x : Result (Unit {0}) Refusal) (q : PendingQueue) (p : PendingPacket) → packets (push_by x q p).queue ≡ queue_by x (packets q) (push_list queue_room p (packets q))
+pushed_to (Err why) q p = refl
+pushed_to (Ok tt) q p = packets_of q (push_list queue_room p (packets q))
 
 -- where none has the key the queue stays
 none_first : (test : PendingPacket → Bool) (q : Queue) → any_of test q ≡ false → q ≡ at_first_is test gone [] q
@@ -215,23 +213,23 @@ none_first test (p ∷ q) h = go (test p) h (none_first test q)
     go true e f = absurd (true≢false e)
     go false e f = ap (λ (l : Queue). p ∷ l) (f e)
 
-released_to : (x : Check) (q : PendingQueue) (k : Key) → packets (release_by x q k).queue ≡ queue_by x (packets q) (release_list k (packets q))
+released_to : (x : Result (Unit {0}) Refusal) (q : PendingQueue) (k : Key) → packets (release_by x q k).queue ≡ queue_by x (packets q) (release_list k (packets q))
 unfolding release_list
-released_to (Fails why) q k = refl
-released_to Fine q k = go (any_of (has_key k) (packets q)) refl
+released_to (Err why) q k = refl
+released_to (Ok tt) q k = go (any_of (has_key k) (packets q)) refl
   where
     go : (b : Bool) → any_of (has_key k) (packets q) ≡ b
-        → packets (cond {A = Released} b (record { queue = with_packets q (at_first_is (has_key k) gone [] (packets q)); answer = release_answer k (packets q) }) (record { queue = q; answer = Nothing })).queue
+        → packets (cond {A = Released} b (record { queue = with_packets q (at_first_is (has_key k) gone [] (packets q)); answer = release_answer k (packets q) }) (record { queue = q; answer = Ok None })).queue
         ≡ at_first_is (has_key k) gone [] (packets q)
     go true e = packets_of q (at_first_is (has_key k) gone [] (packets q))
     go false e = none_first (has_key k) (packets q) e
 
-purged_to : (x : Check) (q : PendingQueue) (goes : PendingPacket → Bool)
+purged_to : (x : Result (Unit {0}) Refusal) (q : PendingQueue) (goes : PendingPacket → Bool)
     → (packets (purge_by x q goes).queue ≡ queue_by x (packets q) (kept goes (packets q)))
     × (handle_list (purge_by x q goes).handles ≡ unless x (map handle_of (dropped goes (packets q))))
 unfolding purged_of dropped_handles
-purged_to (Fails why) q goes = (refl, refl)
-purged_to Fine q goes = (packets_of q (kept goes (packets q)), listed (map handle_of (dropped goes (packets q))))
+purged_to (Err why) q goes = (refl, refl)
+purged_to (Ok tt) q goes = (packets_of q (kept goes (packets q)), listed (map handle_of (dropped goes (packets q))))
 
 stepped : {c : NeighborCache} {q : PendingQueue} {m : Move} {hs : List ℕ} {d : NeighborCache} {r : PendingQueue} → Step c q m hs d r → Stepped c q m hs d r
 stepped (on_cache_lem c q call a d e h) =
@@ -249,8 +247,8 @@ stepped (releases c q i a r h) =
 stepped (purges_orphans c q r h) =
     record {
       cache = refl;
-      queue = ap (λ (w : Purged). packets w.queue) h.is ∙ (purged_to Fine q (orphaned (entries c))).0;
-      gives = ap (λ (w : Purged). handle_list w.handles) h.is ∙ (purged_to Fine q (orphaned (entries c))).1;
+      queue = ap (λ (w : Purged). packets w.queue) h.is ∙ (purged_to (Ok tt) q (orphaned (entries c))).0;
+      gives = ap (λ (w : Purged). handle_list w.handles) h.is ∙ (purged_to (Ok tt) q (orphaned (entries c))).1;
     }
 stepped (purges_iface c q i r h) =
     record {
@@ -310,9 +308,9 @@ unfolding release_list
 room_next (on_cache c) t q h = omega (arith, kept_length (cleared_by_is c) q)
 room_next (push k g) t q h = go (iface_check k.iface)
   where
-    go : (c : Check) → length (queue_by c q (push_list queue_room (packet k g) q)) ≤ 8
-    go (Fails why) = h
-    go Fine = accounted.room queue_room (packet k g) q (omega arith) h
+    go : (c : Result (Unit {0}) Refusal) → length (queue_by c q (push_list queue_room (packet k g) q)) ≤ 8
+    go (Err why) = h
+    go (Ok tt) = accounted.room queue_room (packet k g) q (omega arith) h
 room_next (release k) t q h = go (iface_check k.iface)
   where
     fewer : (l : Queue) → length (at_first_is (has_key k) gone [] l) ≤ length l
@@ -323,15 +321,15 @@ room_next (release k) t q h = go (iface_check k.iface)
         by true r = omega arith
         by false r = omega arith
 
-    go : (c : Check) → length (queue_by c q (release_list k q)) ≤ 8
-    go (Fails why) = h
-    go Fine = omega (arith, fewer q)
+    go : (c : Result (Unit {0}) Refusal) → length (queue_by c q (release_list k q)) ≤ 8
+    go (Err why) = h
+    go (Ok tt) = omega (arith, fewer q)
 room_next purge_orphans t q h = omega (arith, kept_length (orphaned t) q)
 room_next (purge_iface i) t q h = go (iface_check i)
   where
-    go : (c : Check) → length (queue_by c q (kept (on_iface i) q)) ≤ 8
-    go (Fails why) = h
-    go Fine = omega (arith, kept_length (on_iface i) q)
+    go : (c : Result (Unit {0}) Refusal) → length (queue_by c q (kept (on_iface i) q)) ≤ 8
+    go (Err why) = h
+    go (Ok tt) = omega (arith, kept_length (on_iface i) q)
 
 room_after : (moves : List Move) (t : Table) (l : Ledger) → length l.waiting ≤ 8 → length (ledger_after moves t l).waiting ≤ 8
 room_after [] t l h = h

@@ -8,6 +8,8 @@ use mathlib.Core.List.{List, [], ◌∷◌, ◌++◌}
 use mathlib.Core.Logic.{◌⊎◌, inl, inr}
 use mathlib.Core.Path.{◌≡◌, refl, sym, ap, ◌∙◌, subst}
 use native.Mathlib.Omega.{arith}
+use Rattle.std.specs.Prelude.{Result, Ok, Err}
+use Rattle.wire.specs.declared.error.Refusal.{Refusal}
 use Rattle.claims.proofs.Arrives.{step_keeps, step_comes, fold_keeps, router_asked}
 use Rattle.claims.proofs.Backed.{Based, added_cases, addr_inj, based_calls, has, manual_none, none_of, on_sync, put_none, drop_none, same_cidr_refl, some_process}
 use Rattle.claims.proofs.Cleared.{Clear, Masked, Good, ended, keeps, message_masked, taken_clear, ended_clear, one_prefix, one_address}
@@ -50,8 +52,6 @@ use Rattle.time.specs.declared.Instant.{Instant}
 use Rattle.wire.specs.Refusals.{time_check}
 use Rattle.wire.specs.Rfc2464.{formed_of}
 use Rattle.wire.specs.Rfc4291.{same_cidr}
-use Rattle.wire.specs.declared.error.Check.TheVariants.{Fine, Refused as Fails}
-use Rattle.wire.specs.declared.error.Check.{Check}
 use Rattle.wire.specs.declared.ethernet.HardwareAddress.{HardwareAddress}
 use Rattle.wire.specs.declared.ipv6.Formed.TheVariants.{Addr}
 use Rattle.wire.specs.declared.ipv6.Ipv6Addr.{Ipv6Addr}
@@ -408,13 +408,13 @@ module _ (hw : HardwareAddress) where
 
   -- A poll that is taken, with SLAAC on
 
-  settled_turn : (s : Slaac) (t : IfaceAddrs) (r : Routes) (i : ℕ) (up : Bool) (buf : List ℕ) (k : Clock) (x : Check) → x ≡ Fine → s.on ≡ true
+  settled_turn : (s : Slaac) (t : IfaceAddrs) (r : Routes) (i : ℕ) (up : Bool) (buf : List ℕ) (k : Clock) (x : Result (Unit {0}) Refusal) → x ≡ Ok tt → s.on ≡ true
       → (poll_by x s t r i up hw buf k).polled.slaac.sync_required ≡ false
   unfolding leave_expired
-  settled_turn s t r i up buf k (Fails why) fine on = absurd (refused_fine why fine)
-  settled_turn s t r i up buf k Fine fine on =
+  settled_turn s t r i up buf k (Err why) fine on = absurd (refused_fine why fine)
+  settled_turn s t r i up buf k (Ok tt) fine on =
       poll_cases (λ q. q.polled.slaac.sync_required ≡ false) s t r i up hw buf k
-      (λ e. turn_cases (λ q. q.polled.slaac.sync_required ≡ false) u t r i hw k.now turn.clock turn.answer (λ d. refl) (λ d. quiet s.sync_required refl d))
+      (λ e. turn_cases (λ q. q.polled.slaac.sync_required ≡ false) u t r i hw k.now turn.clock (Ok turn.answer) (λ d. refl) (λ d. quiet s.sync_required refl d))
       (λ e. absurd (true≢false (sym on ∙ e)))
     where
       turn : Turn

@@ -3,6 +3,8 @@ use Prim.Native.Nat.{ℕ}
 use mathlib.Core.Bool.{Bool, true, false, cond}
 use mathlib.Core.List.{List}
 use mathlib.Core.Path.{◌≡◌, refl, sym, subst}
+use Rattle.std.specs.Prelude.{Result, Ok, Err}
+use Rattle.wire.specs.declared.error.Refusal.{Refusal}
 use Rattle.claims.specs.Early.{Host, HostCall, advertise, poll, add_addr, add_route, turn_off, Step, advertised, polled, polled_at, restarted, turned_on, addr_added, route_added, turned_off, polled_elsewhere, polled_at_elsewhere, off_elsewhere_lem, Run, none, one_more, TakesPoll, Takes}
 use Rattle.claims.specs.Lists.{All}
 use Rattle.autoconf.specs.AdvertRules.{message_check, steps2to4, message_by, call_by}
@@ -34,16 +36,13 @@ use Rattle.slaac.specs.declared.Slaac.{Slaac}
 use Rattle.time.specs.declared.Clock.{Clock}
 use Rattle.time.specs.declared.Instant.{Instant}
 use Rattle.wire.specs.Refusals.{iface_check, time_check}
-use Rattle.wire.specs.declared.error.Check.TheVariants.{Fine, Refused as Fails}
-use Rattle.wire.specs.declared.error.Check.{Check}
-use Rattle.wire.specs.declared.error.Outcome.TheVariants.{Done}
 use Rattle.wire.specs.declared.ethernet.HardwareAddress.{HardwareAddress}
 use Rattle.wire.specs.declared.ipv6.Ipv6Addr.{Ipv6Addr}
 use Rattle.wire.specs.declared.ipv6.Ipv6Cidr.{Ipv6Cidr}
 
 -- A turn of the sync, and a poll that is taken, case by case
 
-pub turn_cases : (Q : PolledAt → Type 0) (s : Slaac) (t : IfaceAddrs) (r : Routes) (i : ℕ) (hw : HardwareAddress) (now : Instant) (k : Clock) (w : PollAnswer)
+pub turn_cases : (Q : PolledAt → Type 0) (s : Slaac) (t : IfaceAddrs) (r : Routes) (i : ℕ) (hw : HardwareAddress) (now : Instant) (k : Clock) (w : Result PollAnswer Refusal)
     → ((sync_due s k).expired ≡ true → Q (record { clock = (sync_due s k).clock; polled = record { slaac = leave_expired now s; addrs = sync_addrs hw now t s; routes = sync_routes i now r s; answer = w } }))
     → ((sync_due s k).expired ≡ false → Q (record { clock = (sync_due s k).clock; polled = record { slaac = s; addrs = t; routes = r; answer = w } }))
     → Q (sync_turn s t r i hw now k w)
@@ -61,80 +60,80 @@ abbrev pub turn_in : Slaac → IfaceAddrs → Bool → List ℕ → Clock → Tu
 turn_in s t up buf k = turn_of s.discovery (sender_in up t) buf k
 
 abbrev pub sync_after : Turn → Slaac → IfaceAddrs → Routes → ℕ → HardwareAddress → Instant → PolledAt
-sync_after u s t r i hw now = sync_turn (with_discovery s u.discovery) t r i hw now u.clock u.answer
+sync_after u s t r i hw now = sync_turn (with_discovery s u.discovery) t r i hw now u.clock (Ok u.answer)
 
 pub poll_cases : (Q : PolledAt → Type 0) (s : Slaac) (t : IfaceAddrs) (r : Routes) (i : ℕ) (up : Bool) (hw : HardwareAddress) (buf : List ℕ) (k : Clock)
     → (s.on ≡ true → Q (sync_after (turn_in s t up buf k) s t r i hw k.now))
-    → (s.on ≡ false → Q (record { clock = k; polled = record { slaac = s; addrs = t; routes = r; answer = PollOff } })) → Q (poll_by Fine s t r i up hw buf k)
+    → (s.on ≡ false → Q (record { clock = k; polled = record { slaac = s; addrs = t; routes = r; answer = Ok PollOff } })) → Q (poll_by (Ok tt) s t r i up hw buf k)
 unfolding poll_on
 poll_cases Q s t r i up hw buf k f g = go s.on refl
   where
     go : (b : Bool) → s.on ≡ b
-        → Q (cond b (sync_after (turn_in s t up buf k) s t r i hw k.now) (record { clock = k; polled = record { slaac = s; addrs = t; routes = r; answer = PollOff } }))
+        → Q (cond b (sync_after (turn_in s t up buf k) s t r i hw k.now) (record { clock = k; polled = record { slaac = s; addrs = t; routes = r; answer = Ok PollOff } }))
     go true e = f e
     go false e = g e
 
 -- One function
 
 module _ (P : Slaac → IfaceAddrs → Routes → Type 0) where
-  message_keeps : (x : Check) (s : Slaac) (t : IfaceAddrs) (r : Routes) (c : NeighborCache) (i : ℕ) (source : Ipv6Addr) (msg : List ℕ) (now : Instant)
-      → (x ≡ Fine → P (steps2to4 s source msg now) t r) → P s t r → P (message_by x s c i source msg now).slaac t r
-  message_keeps (Fails why) s t r c i source msg now f h = h
-  message_keeps Fine s t r c i source msg now f h = f refl
+  message_keeps : (x : Result (Unit {0}) Refusal) (s : Slaac) (t : IfaceAddrs) (r : Routes) (c : NeighborCache) (i : ℕ) (source : Ipv6Addr) (msg : List ℕ) (now : Instant)
+      → (x ≡ Ok tt → P (steps2to4 s source msg now) t r) → P s t r → P (message_by x s c i source msg now).slaac t r
+  message_keeps (Err why) s t r c i source msg now f h = h
+  message_keeps (Ok tt) s t r c i source msg now f h = f refl
 
-  pub call_keeps : (x : Check) (s : Slaac) (t : IfaceAddrs) (r : Routes) (c : NeighborCache) (i : ℕ) (source : Ipv6Addr) (msg : List ℕ) (now : Instant)
-      → ((x ≡ Fine) × (message_check source msg ≡ Fine) → P (steps2to4 s source msg now) t r) → P s t r → P (call_by x s c i source msg now).slaac t r
-  call_keeps (Fails why) s t r c i source msg now f h = h
-  call_keeps Fine s t r c i source msg now f h = go s.on
+  pub call_keeps : (x : Result (Unit {0}) Refusal) (s : Slaac) (t : IfaceAddrs) (r : Routes) (c : NeighborCache) (i : ℕ) (source : Ipv6Addr) (msg : List ℕ) (now : Instant)
+      → ((x ≡ Ok tt) × (message_check source msg ≡ Ok tt) → P (steps2to4 s source msg now) t r) → P s t r → P (call_by x s c i source msg now).slaac t r
+  call_keeps (Err why) s t r c i source msg now f h = h
+  call_keeps (Ok tt) s t r c i source msg now f h = go s.on
     where
-      go : (b : Bool) → P (cond {A = Advertised} b (message_by (message_check source msg) s c i source msg now) (record { slaac = s; cache = c; answer = Off })).slaac t r
+      go : (b : Bool) → P (cond {A = Advertised} b (message_by (message_check source msg) s c i source msg now) (record { slaac = s; cache = c; answer = Ok Off })).slaac t r
       go true = message_keeps (message_check source msg) s t r c i source msg now (λ e. f (refl, e)) h
       go false = h
 
-  turn_keeps : (s : Slaac) (t : IfaceAddrs) (r : Routes) (i : ℕ) (hw : HardwareAddress) (now : Instant) (k : Clock) (w : PollAnswer)
+  turn_keeps : (s : Slaac) (t : IfaceAddrs) (r : Routes) (i : ℕ) (hw : HardwareAddress) (now : Instant) (k : Clock) (w : Result PollAnswer Refusal)
       → P (leave_expired now s) (sync_addrs hw now t s) (sync_routes i now r s) → P s t r
       → P (sync_turn s t r i hw now k w).polled.slaac (sync_turn s t r i hw now k w).polled.addrs (sync_turn s t r i hw now k w).polled.routes
   turn_keeps s t r i hw now k w f h = turn_cases (λ q. P q.polled.slaac q.polled.addrs q.polled.routes) s t r i hw now k w (λ e. f) (λ e. h)
 
-  poll_keeps : (x : Check) (s : Slaac) (t : IfaceAddrs) (r : Routes) (i : ℕ) (up : Bool) (hw : HardwareAddress) (buf : List ℕ) (k : Clock)
+  poll_keeps : (x : Result (Unit {0}) Refusal) (s : Slaac) (t : IfaceAddrs) (r : Routes) (i : ℕ) (up : Bool) (hw : HardwareAddress) (buf : List ℕ) (k : Clock)
       → ((d : Discovery) → P (with_discovery s d) t r)
-      → ((u : Slaac) → x ≡ Fine → u.on ≡ true → P u t r → P (leave_expired k.now u) (sync_addrs hw k.now t u) (sync_routes i k.now r u)) → P s t r
+      → ((u : Slaac) → x ≡ Ok tt → u.on ≡ true → P u t r → P (leave_expired k.now u) (sync_addrs hw k.now t u) (sync_routes i k.now r u)) → P s t r
       → P (poll_by x s t r i up hw buf k).polled.slaac (poll_by x s t r i up hw buf k).polled.addrs (poll_by x s t r i up hw buf k).polled.routes
-  poll_keeps (Fails why) s t r i up hw buf k d f h = h
-  poll_keeps Fine s t r i up hw buf k d f h =
+  poll_keeps (Err why) s t r i up hw buf k d f h = h
+  poll_keeps (Ok tt) s t r i up hw buf k d f h =
       poll_cases (λ q. P q.polled.slaac q.polled.addrs q.polled.routes) s t r i up hw buf k
-      (λ e. turn_keeps (with_discovery s u.discovery) t r i hw k.now u.clock u.answer (f (with_discovery s u.discovery) refl e (d u.discovery)) (d u.discovery))
+      (λ e. turn_keeps (with_discovery s u.discovery) t r i hw k.now u.clock (Ok u.answer) (f (with_discovery s u.discovery) refl e (d u.discovery)) (d u.discovery))
       (λ e. h)
     where
       u : Turn
       u = turn_in s t up buf k
 
-  pub restart_keeps : (x : Check) (s : Slaac) (t : IfaceAddrs) (r : Routes) → ((d : Discovery) → P (with_discovery s d) t r) → P s t r
+  pub restart_keeps : (x : Result (Unit {0}) Refusal) (s : Slaac) (t : IfaceAddrs) (r : Routes) → ((d : Discovery) → P (with_discovery s d) t r) → P s t r
       → P (turn_by x s (restartedOf s)).slaac t r
-  restart_keeps (Fails why) s t r d h = h
-  restart_keeps Fine s t r d h = go s.on
+  restart_keeps (Err why) s t r d h = h
+  restart_keeps (Ok tt) s t r d h = go s.on
     where
       go : (b : Bool) → P (cond {A = Slaac} b (with_discovery s begun) s) t r
       go true = d begun
       go false = h
 
-  on_keeps : (x : Check) (s : Slaac) (t : IfaceAddrs) (r : Routes) → (s.on ≡ false → P (fresh true) t r) → P s t r → P (turn_by x s (turned_on_is s)).slaac t r
-  on_keeps (Fails why) s t r f h = h
-  on_keeps Fine s t r f h = go s.on refl
+  on_keeps : (x : Result (Unit {0}) Refusal) (s : Slaac) (t : IfaceAddrs) (r : Routes) → (s.on ≡ false → P (fresh true) t r) → P s t r → P (turn_by x s (turned_on_is s)).slaac t r
+  on_keeps (Err why) s t r f h = h
+  on_keeps (Ok tt) s t r f h = go s.on refl
     where
       go : (b : Bool) → s.on ≡ b → P (cond {A = Slaac} b s (fresh true)) t r
       go true e = h
       go false e = f e
 
-  off_keeps : (x : Check) (s : Slaac) (t : IfaceAddrs) (r : Routes) (c : NeighborCache) (q : PendingQueue) (i : ℕ)
+  off_keeps : (x : Result (Unit {0}) Refusal) (s : Slaac) (t : IfaceAddrs) (r : Routes) (c : NeighborCache) (q : PendingQueue) (i : ℕ)
       → P (fresh false) (clear_addrs t).addrs (with_routes r (clear_routes i (routes_of r))) → P s t r
       → P (off_by x s t r c q i).slaac (off_by x s t r c q i).addrs (off_by x s t r c q i).routes
   unfolding off_now
-  off_keeps (Fails why) s t r c q i f h = h
-  off_keeps Fine s t r c q i f h = go s.on
+  off_keeps (Err why) s t r c q i f h = h
+  off_keeps (Ok tt) s t r c q i f h = go s.on
     where
       after : Bool → TurnedOff
-      after b = cond b (off_now t r c q i) (left_alone s t r c q Done)
+      after b = cond b (off_now t r c q i) (left_alone s t r c q (Ok tt))
 
       go : (b : Bool) → P (after b).slaac (after b).addrs (after b).routes
       go true = f

@@ -8,6 +8,8 @@ use mathlib.Core.Bool.{Bool, true, false, cond}
 use mathlib.Core.List.{List, [], ◌∷◌, ◌++◌, map, append_assoc}
 use mathlib.Core.Path.{◌≡◌, refl, ap, ◌∙◌}
 use native.Mathlib.Omega.{arith}
+use Rattle.std.specs.Prelude.{Result, Ok, Err}
+use Rattle.wire.specs.declared.error.Refusal.{Refusal}
 use Rattle.claims.proofs.Lists.{append-nil, map_append, all_append, all_first, all_map, all_weaken, all_kept, all_dropped}
 use Rattle.claims.specs.Lists.{All}
 use Rattle.claims.specs.Packets.{Move, on_cache, push, release, purge_orphans, purge_iface, table_next, brings, brought, Numbered, Way, by_overflow, by_release, by_orphans, by_purge, by_off, Departure, Ledger, number_of, number_from, opened, Parted, asks, departs, is_full_of, overflow, nobody, alone, first_out, all_out, cleared_by_is, unless_refused, parted, ledger_next, ledger_after, ledger, number_left, times, Nth}
@@ -18,8 +20,6 @@ use Rattle.pending.specs.QueueRules.{Queue, has_key, orphaned, on_iface}
 use Rattle.pending.specs.declared.PendingPacket.{PendingPacket}
 use Rattle.table.specs.Table.{at_first_is, first_of, kept, dropped}
 use Rattle.wire.specs.Refusals.{iface_check}
-use Rattle.wire.specs.declared.error.Check.TheVariants.{Fine, Refused as Fails}
-use Rattle.wire.specs.declared.error.Check.{Check}
 
 -- Counts
 
@@ -87,9 +87,9 @@ module _ (n : ℕ) where
   first_counts : (test : PendingPacket → Bool) (ns : List Numbered) → Counts (first_out test ns) ns
   first_counts test ns = omega (arith, first_count (asks test) ns, ap (count_of n) (left_departs by_release (first_of (asks test) alone [] ns)))
 
-  taken_counts : (c : Check) (x : Parted) (ns : List Numbered) → Counts x ns → Counts (unless_refused c ns x) ns
-  taken_counts (Fails why) x ns h = omega arith
-  taken_counts Fine x ns h = h
+  taken_counts : (c : Result (Unit {0}) Refusal) (x : Parted) (ns : List Numbered) → Counts x ns → Counts (unless_refused c ns x) ns
+  taken_counts (Err why) x ns h = omega arith
+  taken_counts (Ok tt) x ns h = h
 
   parts_count : (m : Move) (t : Table) (ns : List Numbered) → Counts (parted m t ns) ns
   parts_count (on_cache c) t ns = out_counts by_off (cleared_by_is c) ns
@@ -169,9 +169,9 @@ module _ (P : Numbered → Type 0) where
   both_out : (way : Way) (test : PendingPacket → Bool) (ns : List Numbered) → All P ns → Both (all_out way test ns)
   both_out way test ns h = (all_kept P (asks test) ns h, all_departs way (dropped (asks test) ns) (all_dropped P (asks test) ns h))
 
-  both_taken : (c : Check) (x : Parted) (ns : List Numbered) → All P ns → Both x → Both (unless_refused c ns x)
-  both_taken (Fails why) x ns h b = (h, tt)
-  both_taken Fine x ns h b = b
+  both_taken : (c : Result (Unit {0}) Refusal) (x : Parted) (ns : List Numbered) → All P ns → Both x → Both (unless_refused c ns x)
+  both_taken (Err why) x ns h b = (h, tt)
+  both_taken (Ok tt) x ns h b = b
 
   both_parts : (m : Move) (t : Table) (ns : List Numbered) → All P ns → Both (parted m t ns)
   both_parts (on_cache c) t ns h = both_out by_off (cleared_by_is c) ns h

@@ -7,6 +7,7 @@ use mathlib.Core.List.{List, [], ◌∷◌, ◌++◌, map}
 use mathlib.Core.Logic.{◌⊎◌, inl, inr}
 use mathlib.Core.Path.{◌≡◌, refl, sym, ap, ◌∙◌}
 use native.Mathlib.Omega.{arith}
+use Rattle.std.specs.Prelude.{Result, Ok, Err}
 use Rattle.claims.proofs.Places.{expired_length, places}
 use Rattle.claims.specs.Looks.{how_many, Reports, lent, by_value, Probes, sent, lost, sixteen, waits, Looks}
 use Rattle.claims.specs.Places.{UntilNone, over, more}
@@ -26,8 +27,6 @@ use Rattle.table.specs.First.{FirstAt, NoneFrom}
 use Rattle.table.specs.Table.{first_from, swap_remove, last_of, front_of, last_first}
 use Rattle.time.specs.declared.Clock.{Clock}
 use Rattle.time.specs.declared.Instant.{Instant}
-use Rattle.wire.specs.declared.error.Check.TheVariants.{Fine, Refused as Fails}
-use Rattle.wire.specs.declared.error.Check.{Check}
 use Rattle.wire.specs.declared.error.Refusal.{Refusal}
 
 -- How many
@@ -243,10 +242,10 @@ reported_by c k i n (lent _ _ _ _ r h) = ap (λ (x : Reported). x.looked) h.is
 reported_by c k i n (by_value _ _ _ r h) = ap (λ (x : Swept). x.looked) h.is
 
 module _ (c : NeighborCache) (k : Clock) (i n : ℕ) (h : Reports c k i n) where
-  module _ (fine : sweep_check k i ≡ Fine) where
+  module _ (fine : sweep_check k i ≡ Ok tt) where
     entries_many : n ≡ length (entries c)
     unfolding swept_in
-    entries_many = reported_by c k i n h ∙ (ap (λ (x : Check). (sweep_by x c k i).looked) fine ∙ as_many i k.now (entries c))
+    entries_many = reported_by c k i n h ∙ (ap (λ (x : Result (Unit {0}) Refusal). (sweep_by x c k i).looked) fine ∙ as_many i k.now (entries c))
 
     module _ (vs : List ProbeEvent) (u es : Table) (calls : ℕ) (p : Probes c k i vs u es calls) where
       steps : n ≡ length es
@@ -255,8 +254,8 @@ module _ (c : NeighborCache) (k : Clock) (i n : ℕ) (h : Reports c k i n) where
       ceiling : calls ≤ suc n
       ceiling = omega (arith, calls_most i k.now p, steps)
 
-  refused : (why : Refusal) → sweep_check k i ≡ Fails why → n ≡ 0
-  refused why e = reported_by c k i n h ∙ ap (λ (x : Check). (sweep_by x c k i).looked) e
+  refused : (why : Refusal) → sweep_check k i ≡ Err why → n ≡ 0
+  refused why e = reported_by c k i n h ∙ ap (λ (x : Result (Unit {0}) Refusal). (sweep_by x c k i).looked) e
 
 pub looks : Looks
 unfolding expire_all due spent same_key on_iface probe events_from sweep_table looks_at looks_from sweep_looks swept_in

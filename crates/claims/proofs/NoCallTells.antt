@@ -3,6 +3,7 @@ use Prim.Native.Nat.{ℕ}
 use mathlib.Core.Bool.{Bool}
 use mathlib.Core.List.{List, ◌∷◌}
 use mathlib.Core.Path.{◌≡◌, refl, sym, ap, ap₂, ◌∙◌}
+use Rattle.std.specs.Prelude.{Ok, Option, Some, None}
 use Rattle.autoconf.specs.AdvertRules.{AdvertisedTo}
 use Rattle.autoconf.specs.OffRules.{TurnedOffTo}
 use Rattle.autoconf.specs.PollRules.{PolledTo}
@@ -33,6 +34,7 @@ use Rattle.neighbor.specs.CacheCalls.{key, changed_to, RemovedTo}
 use Rattle.neighbor.specs.NeighborRules.{same_key, find, lasting, insert_state, on_iface as entryOnIface, clear_iface}
 use Rattle.neighbor.specs.declared.Answer.TheVariants.{Pending, NotFound}
 use Rattle.neighbor.specs.declared.Entry.{Entry}
+use Rattle.neighbor.specs.declared.Neighbor.{Neighbor}
 use Rattle.neighbor.specs.declared.NeighborCache.{NeighborCache}
 use Rattle.neighbor.specs.declared.Removed.{Removed}
 use Rattle.neighbor.specs.declared.State.TheVariants.{Started, Reachable}
@@ -40,8 +42,6 @@ use Rattle.pending.specs.QueueCalls.{purged_of, PushedTo, ReleasedTo, OrphansPur
 use Rattle.pending.specs.QueueRules.{packet, push_list, push_answer, orphaned, on_iface, dropped_handles}
 use Rattle.pending.specs.declared.PendingPacket.{PendingPacket}
 use Rattle.pending.specs.declared.PendingQueue.{PendingQueue}
-use Rattle.pending.specs.declared.Push.TheVariants.{Queued}
-use Rattle.pending.specs.declared.Waiting.TheVariants.{Is}
 use Rattle.pending.specs.declared.Purged.{Purged}
 use Rattle.pending.specs.declared.Pushed.{Pushed}
 use Rattle.pending.specs.declared.Released.{Released}
@@ -49,10 +49,8 @@ use Rattle.slaac.specs.declared.Slaac.{Slaac}
 use Rattle.sweep.specs.SweepCalls.{sweep_check, SweptTo}
 use Rattle.sweep.specs.declared.Swept.{Swept}
 use Rattle.time.specs.declared.Clock.{Clock}
-use Rattle.time.specs.declared.Deadline.{Deadline}
 use Rattle.time.specs.declared.Instant.{Instant}
 use Rattle.wire.specs.Refusals.{fill_check, key_check, iface_check, time_check}
-use Rattle.wire.specs.declared.error.Outcome.TheVariants.{Done}
 use Rattle.wire.specs.declared.ethernet.HardwareAddress.{HardwareAddress}
 use Rattle.wire.specs.declared.ipv6.Ipv6Addr.{Ipv6Addr}
 use Rattle.wire.specs.declared.ipv6.Ipv6Cidr.{Ipv6Cidr}
@@ -127,7 +125,7 @@ turns_same x y w received hw buf buf' buf'' t u s f g =
     let e : AlikeTurned t u = rw (f.is, g.is) (turned_same x y s received hw buf w) in
     (e.card, e.report, e.wake, f.leaves ∙ (turn_buffer_same x y s received hw buf w ∙ sym g.leaves))
 
-runs_same : (x y : Card) (wake : Deadline) (inbox : Inbox) (received : List ℕ) (hw : HardwareAddress) (buf buf' buf'' : List ℕ) (budget : ℕ) (r q : Ran) → SameCard x y
+runs_same : (x y : Card) (wake : Option Instant) (inbox : Inbox) (received : List ℕ) (hw : HardwareAddress) (buf buf' buf'' : List ℕ) (budget : ℕ) (r q : Ran) → SameCard x y
     → RanTo x wake inbox received hw buf budget r buf' → RanTo y wake inbox received hw buf budget q buf''
     → SameCard r.card q.card × (r.reports ≡ q.reports) × (r.wake ≡ q.wake) × (buf' ≡ buf'')
 runs_same x y wake inbox received hw buf buf' buf'' budget r q s f g =
@@ -169,7 +167,7 @@ step_same s (inserts h i a hw expires r p) (inserts g j b hw' expires' q o) =
 step_same s (gets h i a r p) (gets g j b q o) =
     (ap gave_neighbor (p.is ∙ (get_same h.cache g.cache s.cache (iface_check i) (key i a) ∙ sym o.is)), s)
 step_same s (lists_neighbors h n r p) (lists_neighbors g m q o) =
-    (ap gave_neighbor (p.is ∙ (at_same h.cache g.cache s.cache n ∙ sym o.is)), s)
+    (ap (λ (x : Option Neighbor). gave_neighbor (Ok x)) (p.is ∙ (at_same h.cache g.cache s.cache n ∙ sym o.is)), s)
 step_same s (removes h i a r p) (removes g j b q o) =
     let e = removes_same h.cache g.cache i a r q s.cache p o in (ap gave_neighbor e.0, with_cache s e.1)
 step_same s (clears h i r p) (clears g j q o) =
@@ -239,12 +237,12 @@ told_from e p =
     let q1 = queue_with (packet (node_on 0 1) 7) (packet_on 1) 1 in
     let q2 = queue_with (packet (node_on 0 1) 7) (packet_on 1) 0 in
     one_more (starts (holding c0 q0) 0 (node_on 0 1).addr (changed_to c1) (record { is = refl; number = refl }))
-    (one_more (looks_up (holding c1 q0) 0 (node_on 0 1).addr Pending (record { is = refl; number = refl; found = refl }))
-    (one_more (pushes (holding c1 q0) 0 (node_on 0 1).addr 7 (record { queue = q1; answer = Queued }) (record { is = refl; number = refl; gives = refl }))
-    (one_more (lists_packets (holding c1 q1) 0 (Is (packet (node_on 0 1) 7)) (record { is = refl; number = refl; shows = refl }))
+    (one_more (looks_up (holding c1 q0) 0 (node_on 0 1).addr (Ok Pending) (record { is = refl; number = refl; found = refl }))
+    (one_more (pushes (holding c1 q0) 0 (node_on 0 1).addr 7 (record { queue = q1; answer = Ok None }) (record { is = refl; number = refl; gives = refl }))
+    (one_more (lists_packets (holding c1 q1) 0 (Some (packet (node_on 0 1) 7)) (record { is = refl; number = refl; shows = refl }))
     (one_more (clears (holding c1 q1) 0 (changed_to c2) (record { is = refl; number = refl }))
-    (one_more (looks_up (holding c2 q1) 0 (node_on 0 1).addr NotFound (record { is = refl; number = refl; found = refl }))
-    (one_more (purges_orphans (holding c2 q1) (record { queue = q2; handles = one_handle 7; outcome = Done }) (record { is = refl; number = refl }))
+    (one_more (looks_up (holding c2 q1) 0 (node_on 0 1).addr (Ok NotFound) (record { is = refl; number = refl; found = refl }))
+    (one_more (purges_orphans (holding c2 q1) (record { queue = q2; handles = one_handle 7; outcome = Ok tt }) (record { is = refl; number = refl }))
     (none (holding c2 q2))))))))
 
 pub no_call_tells : NoCallTells

@@ -6,11 +6,10 @@ use mathlib.Core.List.{List, [], ◌∷◌}
 use mathlib.Core.Path.{◌≡◌, refl, sym, ap, subst, ◌∙◌}
 use native.Mathlib.Omega.{arith}
 use borrow.Author.Tests.{leb-true}
+use Rattle.std.specs.Prelude.{Result, Ok, Err}
 use Rattle.neighbor.proofs.NeverRefused.{never_refused}
 use Rattle.claims.specs.Order.{NoneAbove, Order}
 use Rattle.wire.specs.Refusals.{Row, row_of, ascends, first_refusal}
-use Rattle.wire.specs.declared.error.Check.TheVariants.{Fine, Refused}
-use Rattle.wire.specs.declared.error.Check.{Check}
 use Rattle.wire.specs.declared.error.Refusal.{Refusal}
 
 both : (x y : Bool) → x && y ≡ true → (x ≡ true) × (y ≡ true)
@@ -28,16 +27,16 @@ below top (next ∷ rows) row h e =
     let first : row_of row.refusal ≤ row_of next.refusal = leb-true _ _ (both (leb (row_of row.refusal) (row_of next.refusal)) (ascends (next ∷ rows)) e).0 in
     (λ _. h, below top rows next (omega arith) (rest_ascends row (next ∷ rows) e))
 
-abbrev row_in : Check → ℕ
-row_in (Refused why) = row_of why
-row_in Fine = 0
+abbrev row_in : Result (Unit {0}) Refusal → ℕ
+row_in (Err why) = row_of why
+row_in (Ok tt) = 0
 
-topmost : (rows : List Row) → ascends rows ≡ true → (why : Refusal) → first_refusal rows ≡ Refused why → NoneAbove why rows
+topmost : (rows : List Row) → ascends rows ≡ true → (why : Refusal) → first_refusal rows ≡ Err why → NoneAbove why rows
 topmost [] e why h = tt
 topmost (row ∷ rows) e why h = go row.fails refl h (topmost rows (rest_ascends row rows e) why)
   where
-    go : (x : Bool) → row.fails ≡ x → cond x (Refused row.refusal) (first_refusal rows) ≡ Refused why
-        → (first_refusal rows ≡ Refused why → NoneAbove why rows) → NoneAbove why (row ∷ rows)
+    go : (x : Bool) → row.fails ≡ x → cond x (Err row.refusal) (first_refusal rows) ≡ Err why
+        → (first_refusal rows ≡ Err why → NoneAbove why rows) → NoneAbove why (row ∷ rows)
     go true f g on = let same : row_of row.refusal ≡ row_of why = ap row_in g in below why rows row (omega (arith, same)) e
     go false f g on = (λ t. absurd (subst T (sym (sym f ∙ t)) tt), on g)
 

@@ -7,14 +7,13 @@ use mathlib.Core.List.{List, [], ◌∷◌, ◌++◌}
 use mathlib.Core.Logic.{◌⊎◌, inl, inr}
 use mathlib.Core.Path.{◌≡◌, refl, sym, ap, ◌∙◌, subst}
 use native.Mathlib.Omega.{arith}
+use Rattle.std.specs.Prelude.{Option, None, Some as Just}
 use Rattle.claims.proofs.Covers.{Covered, ask, prefix_end, router_end, unasked, asked_prefixes, asked_all, asked_now}
 use Rattle.claims.proofs.Lists.{all_append, some_after, some_append, some_kept}
 use Rattle.claims.proofs.WakeTable.{sooner_one}
 use Rattle.claims.specs.Lists.{All, Some, Member}
 use Rattle.claims.specs.Wake.{already, IsEarliest}
 use Rattle.claims.specs.WakePoll.{end_of, ends_of, retry_of, retry_from}
-use Rattle.iface.specs.declared.addr.Source.TheVariants.{Nothing, From}
-use Rattle.iface.specs.declared.addr.Source.{Source}
 use Rattle.slaac.specs.DiscoveryRules.{due_phase, due, retry_at, sent, solicitation}
 use Rattle.slaac.specs.LearnedRules.{prefixes_of, routers_of}
 use Rattle.slaac.specs.declared.Discovery.{Discovery}
@@ -29,52 +28,50 @@ use Rattle.time.specs.ClockRules.{sooner, scheduled_of, asked_end, is_after}
 use Rattle.time.specs.Forward.{NotLater}
 use Rattle.time.specs.declared.Answer.{Answer}
 use Rattle.time.specs.declared.Clock.{Clock}
-use Rattle.time.specs.declared.Deadline.TheVariants.{None, At}
-use Rattle.time.specs.declared.Deadline.{Deadline}
 use Rattle.time.specs.declared.Expiry.TheVariants.{At as EndsAt, Forever}
 use Rattle.time.specs.declared.Expiry.{Expiry}
 use Rattle.time.specs.declared.Instant.{Instant}
 use Rattle.wire.specs.declared.ipv6.Ipv6Addr.{Ipv6Addr}
 
 -- a deadline is one of the times, if it is at all
-abbrev pub InTimes : Deadline → List Instant → Type 0
+abbrev pub InTimes : Option Instant → List Instant → Type 0
 InTimes None times = Unit {0}
-InTimes (At t) times = Member t times
+InTimes (Just t) times = Member t times
 
-pub earliest : (d : Deadline) (times : List Instant) → InTimes d times → All (λ t. NotLater d (At t)) times → IsEarliest d times
+pub earliest : (d : Option Instant) (times : List Instant) → InTimes d times → All (λ t. NotLater d (Just t)) times → IsEarliest d times
 earliest None [] m h = refl
 earliest None (t ∷ times) m h = absurd h.0
-earliest (At d) times m h = (m, h)
+earliest (Just d) times m h = (m, h)
 
-in_right : (d : Deadline) (xs ys : List Instant) → InTimes d ys → InTimes d (xs ++ ys)
+in_right : (d : Option Instant) (xs ys : List Instant) → InTimes d ys → InTimes d (xs ++ ys)
 in_right None xs ys m = tt
-in_right (At t) xs ys m = some_after (λ y. y ≡ t) xs ys m
+in_right (Just t) xs ys m = some_after (λ y. y ≡ t) xs ys m
 
-in_left : (d : Deadline) (xs ys : List Instant) → InTimes d xs → InTimes d (xs ++ ys)
+in_left : (d : Option Instant) (xs ys : List Instant) → InTimes d xs → InTimes d (xs ++ ys)
 in_left None xs ys m = tt
-in_left (At t) xs ys m = some_append (λ y. y ≡ t) xs ys m
+in_left (Just t) xs ys m = some_append (λ y. y ≡ t) xs ys m
 
-in_own : (d : Deadline) → InTimes d (already d)
+in_own : (d : Option Instant) → InTimes d (already d)
 in_own None = tt
-in_own (At t) = inl refl
+in_own (Just t) = inl refl
 
-in_already : (d base : Deadline) (xs : List Instant) → d ≡ base → InTimes d (already base ++ xs)
-in_already d base xs q = subst (λ (b : Deadline). InTimes d (already b ++ xs)) q (in_left d (already d) xs (in_own d))
+in_already : (d base : Option Instant) (xs : List Instant) → d ≡ base → InTimes d (already base ++ xs)
+in_already d base xs q = subst (λ (b : Option Instant). InTimes d (already b ++ xs)) q (in_left d (already d) xs (in_own d))
 
-pub own_not_later : (d base : Deadline) → NotLater d base → All (λ t. NotLater d (At t)) (already base)
+pub own_not_later : (d base : Option Instant) → NotLater d base → All (λ t. NotLater d (Just t)) (already base)
 own_not_later d None h = tt
-own_not_later d (At b) h = (h, tt)
+own_not_later d (Just b) h = (h, tt)
 
 -- an end that was asked joins the deadline, or leaves it
-pub record Ends {A : Type 0} (f : A → Expiry) (now : Instant) (xs : List A) (d : Deadline) : Type 0 where
+pub record Ends {A : Type 0} (f : A → Expiry) (now : Instant) (xs : List A) (d : Option Instant) : Type 0 where
   pub time : Instant
-  pub is : d ≡ At time
+  pub is : d ≡ Just time
   pub later : now.0 < time.0
   pub somewhere : Some (λ x. f x ≡ EndsAt time) xs
 
-record EndsOne (e : Expiry) (now : Instant) (d : Deadline) : Type 0 where
+record EndsOne (e : Expiry) (now : Instant) (d : Option Instant) : Type 0 where
   time : Instant
-  is : d ≡ At time
+  is : d ≡ Just time
   later : now.0 < time.0
   end : e ≡ EndsAt time
 
@@ -85,7 +82,7 @@ one_joins c (EndsAt t) = go (leb t.0 c.now.0) refl
     by : Bool → Answer
     by x = cond x (record { expired = true; clock = c }) (record { expired = false; clock = scheduled_of c t })
 
-    joins : (sooner c.deadline t ≡ c.deadline) ⊎ (sooner c.deadline t ≡ At t) → c.now.0 < t.0
+    joins : (sooner c.deadline t ≡ c.deadline) ⊎ (sooner c.deadline t ≡ Just t) → c.now.0 < t.0
         → (sooner c.deadline t ≡ c.deadline) ⊎ EndsOne (EndsAt t) c.now (sooner c.deadline t)
     joins (inl q) l = inl q
     joins (inr q) l = inr (record { time = t; is = q; later = l; end = refl })
@@ -113,18 +110,18 @@ module _ {A : Type 0} (f : A → Expiry) where
   member_ends t (x ∷ xs) (inl q) = some_append (λ y. y ≡ t) (end_of (f x)) (ends_of f xs) (subst (λ (e : Expiry). Member t (end_of e)) (sym q) (inl refl))
   member_ends t (x ∷ xs) (inr w) = some_after (λ y. y ≡ t) (end_of (f x)) (ends_of f xs) (member_ends t xs w)
 
-  pub in_ends : (now : Instant) (xs : List A) (d : Deadline) → Ends f now xs d → InTimes d (ends_of f xs)
-  in_ends now xs d w = subst (λ (y : Deadline). InTimes y (ends_of f xs)) (sym w.is) (member_ends w.time xs w.somewhere)
+  pub in_ends : (now : Instant) (xs : List A) (d : Option Instant) → Ends f now xs d → InTimes d (ends_of f xs)
+  in_ends now xs d w = subst (λ (y : Option Instant). InTimes y (ends_of f xs)) (sym w.is) (member_ends w.time xs w.somewhere)
 
-  pub ends_not_later : (d : Deadline) (xs : List A) → All (λ x. Covered d (f x)) xs → All (λ t. NotLater d (At t)) (ends_of f xs)
+  pub ends_not_later : (d : Option Instant) (xs : List A) → All (λ x. Covered d (f x)) xs → All (λ t. NotLater d (Just t)) (ends_of f xs)
   ends_not_later d [] h = tt
-  ends_not_later d (x ∷ xs) h = all_append (λ t. NotLater d (At t)) (end_of (f x)) (ends_of f xs) (go (f x) h.0) (ends_not_later d xs h.1)
+  ends_not_later d (x ∷ xs) h = all_append (λ t. NotLater d (Just t)) (end_of (f x)) (ends_of f xs) (go (f x) h.0) (ends_not_later d xs h.1)
     where
-      go : (e : Expiry) → Covered d e → All (λ t. NotLater d (At t)) (end_of e)
+      go : (e : Expiry) → Covered d e → All (λ t. NotLater d (Just t)) (end_of e)
       go (EndsAt t) c = (c, tt)
       go Forever c = tt
 
-  pub ends_kept : (now : Instant) (xs : List A) (d : Deadline) → Ends f now xs d → Ends f now (kept (λ x. not (is_after (f x) now)) xs) d
+  pub ends_kept : (now : Instant) (xs : List A) (d : Option Instant) → Ends f now xs d → Ends f now (kept (λ x. not (is_after (f x) now)) xs) d
   ends_kept now xs d w =
       record {
         time = w.time;
@@ -136,27 +133,27 @@ module _ {A : Type 0} (f : A → Expiry) where
       }
 
 -- the times of a poll, by where the deadline came from
-module _ (base : Deadline) (retry prefixes routers : List Instant) where
+module _ (base : Option Instant) (retry prefixes routers : List Instant) where
   abbrev pub together : List Instant
   together = already base ++ (retry ++ (prefixes ++ routers))
 
-  by_turn : (d : Deadline) → (d ≡ base) ⊎ InTimes d retry → InTimes d together
+  by_turn : (d : Option Instant) → (d ≡ base) ⊎ InTimes d retry → InTimes d together
   by_turn d (inl q) = in_already d base (retry ++ (prefixes ++ routers)) q
   by_turn d (inr m) = in_right d (already base) (retry ++ (prefixes ++ routers)) (in_left d retry (prefixes ++ routers) m)
 
-  by_prefix : (d : Deadline) → InTimes d prefixes → InTimes d together
+  by_prefix : (d : Option Instant) → InTimes d prefixes → InTimes d together
   by_prefix d m = in_right d (already base) (retry ++ (prefixes ++ routers)) (in_right d retry (prefixes ++ routers) (in_left d prefixes routers m))
 
-  by_router : (d : Deadline) → InTimes d routers → InTimes d together
+  by_router : (d : Option Instant) → InTimes d routers → InTimes d together
   by_router d m = in_right d (already base) (retry ++ (prefixes ++ routers)) (in_right d retry (prefixes ++ routers) (in_right d prefixes routers m))
 
 -- the solicitation's part
 asked_joins : (c : Clock) (t : Instant) → (sooner c.deadline t ≡ c.deadline) ⊎ InTimes (sooner c.deadline t) (t ∷ [])
 asked_joins c t = go (sooner_one c.deadline t)
   where
-    go : (sooner c.deadline t ≡ c.deadline) ⊎ (sooner c.deadline t ≡ At t) → (sooner c.deadline t ≡ c.deadline) ⊎ InTimes (sooner c.deadline t) (t ∷ [])
+    go : (sooner c.deadline t ≡ c.deadline) ⊎ (sooner c.deadline t ≡ Just t) → (sooner c.deadline t ≡ c.deadline) ⊎ InTimes (sooner c.deadline t) (t ∷ [])
     go (inl q) = inl q
-    go (inr q) = inr (subst (λ (d : Deadline). InTimes d (t ∷ [])) (sym q) (inl refl))
+    go (inr q) = inr (subst (λ (d : Option Instant). InTimes d (t ∷ [])) (sym q) (inl refl))
 
 phase_joins : (p : Phase) (c : Clock) → ((due_phase p c).clock.deadline ≡ c.deadline) ⊎ InTimes (due_phase p c).clock.deadline (retry_of p)
 phase_joins Start c = inl refl
@@ -231,31 +228,31 @@ solicit_joins v c = go (due v c).expired refl
     go true q = from _ (due_came v c q) (sent_joins v (due v c).clock)
     go false q = due_joins v c
 
-pub turn_joins : (sender : Source) (v : Discovery) (c : Clock)
+pub turn_joins : (sender : Option Ipv6Addr) (v : Discovery) (c : Clock)
     → ((solicit_from sender v c).clock.deadline ≡ c.deadline) ⊎ InTimes (solicit_from sender v c).clock.deadline (retry_from sender (solicit_from sender v c).discovery)
-turn_joins Nothing v c = inl refl
-turn_joins (From a) v c = solicit_joins v c
+turn_joins None v c = inl refl
+turn_joins (Just a) v c = solicit_joins v c
 
-pub retry_not_later : (sender : Source) (v : Discovery) (d : Deadline)
-    → ((source : Ipv6Addr) (retry : Instant) → sender ≡ From source → v.phase ≡ Discovering retry → 0 < v.num_solicitations → NotLater d (At retry))
-    → All (λ t. NotLater d (At t)) (retry_from sender v)
-retry_not_later Nothing v d f = tt
-retry_not_later (From a) v d f = go (eqb v.num_solicitations 0) refl v.phase refl
+pub retry_not_later : (sender : Option Ipv6Addr) (v : Discovery) (d : Option Instant)
+    → ((source : Ipv6Addr) (retry : Instant) → sender ≡ Just source → v.phase ≡ Discovering retry → 0 < v.num_solicitations → NotLater d (Just retry))
+    → All (λ t. NotLater d (Just t)) (retry_from sender v)
+retry_not_later None v d f = tt
+retry_not_later (Just a) v d f = go (eqb v.num_solicitations 0) refl v.phase refl
   where
-    go : (x : Bool) → eqb v.num_solicitations 0 ≡ x → (p : Phase) → v.phase ≡ p → All (λ t. NotLater d (At t)) (cond x [] (retry_of p))
+    go : (x : Bool) → eqb v.num_solicitations 0 ≡ x → (p : Phase) → v.phase ≡ p → All (λ t. NotLater d (Just t)) (cond x [] (retry_of p))
     go true q p e = tt
     go false q Start e = tt
     go false q (Discovering t) e = (f a t refl e (omega (arith, eqb-false v.num_solicitations 0 q)), tt)
     go false q Maintaining e = tt
 
 -- the deadline after the asks, with what is left of the tables
-pub asks_join : (s : Slaac) (k : Clock) (now : Instant) → k.now ≡ now → (base : Deadline) (retry : List Instant) → (k.deadline ≡ base) ⊎ InTimes k.deadline retry
-    → (prefixes routers : List Instant) → ((d : Deadline) → Ends prefix_end now (prefixes_of s) d → InTimes d prefixes) → ((d : Deadline) → Ends router_end now (routers_of s) d → InTimes d routers)
+pub asks_join : (s : Slaac) (k : Clock) (now : Instant) → k.now ≡ now → (base : Option Instant) (retry : List Instant) → (k.deadline ≡ base) ⊎ InTimes k.deadline retry
+    → (prefixes routers : List Instant) → ((d : Option Instant) → Ends prefix_end now (prefixes_of s) d → InTimes d prefixes) → ((d : Option Instant) → Ends router_end now (routers_of s) d → InTimes d routers)
     → InTimes (asked_all s k).clock.deadline (together base retry prefixes routers)
 asks_join s k now same base retry from prefixes routers of-prefix of-router =
     go (all_join router_end now (asked_prefixes s k) (routers_of s) (asked_now s k ∙ same)) (all_join prefix_end now (unasked s k) (prefixes_of s) same)
   where
-    d : Deadline
+    d : Option Instant
     d = (asked_all s k).clock.deadline
 
     go : (d ≡ (asked_prefixes s k).clock.deadline) ⊎ Ends router_end now (routers_of s) d
@@ -263,6 +260,6 @@ asks_join s k now same base retry from prefixes routers of-prefix of-router =
         → InTimes d (together base retry prefixes routers)
     go (inr w) p = by_router base retry prefixes routers d (of-router d w)
     go (inl q) (inr w) =
-        subst (λ (x : Deadline). InTimes x (together base retry prefixes routers)) (sym q)
+        subst (λ (x : Option Instant). InTimes x (together base retry prefixes routers)) (sym q)
         (by_prefix base retry prefixes routers (asked_prefixes s k).clock.deadline (of-prefix (asked_prefixes s k).clock.deadline w))
-    go (inl q) (inl p) = subst (λ (x : Deadline). InTimes x (together base retry prefixes routers)) (sym (q ∙ p)) (by_turn base retry prefixes routers k.deadline from)
+    go (inl q) (inl p) = subst (λ (x : Option Instant). InTimes x (together base retry prefixes routers)) (sym (q ∙ p)) (by_turn base retry prefixes routers k.deadline from)

@@ -6,6 +6,7 @@ use mathlib.Core.List.{List, [], ◌∷◌}
 use mathlib.Core.Logic.{inl, inr}
 use mathlib.Core.Path.{◌≡◌, refl, sym, ap, ◌∙◌, subst}
 use native.Mathlib.Omega.{arith}
+use Rattle.std.specs.Prelude.{Result, Ok, Err}
 use Rattle.claims.proofs.Clocks.{turn_forward}
 use Rattle.claims.proofs.Keeps.{turn_in, poll_cases}
 use Rattle.claims.proofs.Lists.{or_left, or_right}
@@ -34,8 +35,6 @@ use Rattle.time.specs.declared.Expiry.TheVariants.{At, Forever}
 use Rattle.time.specs.declared.Expiry.{Expiry}
 use Rattle.time.specs.declared.Instant.{Instant}
 use Rattle.wire.specs.Refusals.{time_check}
-use Rattle.wire.specs.declared.error.Check.TheVariants.{Fine, Refused as Fails}
-use Rattle.wire.specs.declared.error.Check.{Check}
 use Rattle.wire.specs.declared.error.Refusal.{Refusal}
 use Rattle.wire.specs.declared.ethernet.HardwareAddress.{HardwareAddress}
 
@@ -86,29 +85,29 @@ due_router s k now same h = asked_one router_end now (routers_of s) first (asked
     first : Answer
     first = fold_over ask_prefix (record { expired = s.sync_required; clock = k }) (prefixes_of s)
 
-pub refused_fine : (why : Refusal) → Fails why ≡ Fine → ⊥
+pub refused_fine : (why : Refusal) → ◌≡◌ {A = Result (Unit {0}) Refusal} (Err why) (Ok tt) → ⊥
 refused_fine why e = let z : ◌≡◌ {A = ℕ} 0 1 = cc in omega arith
 
 -- A poll that is taken, with SLAAC on and the sync due: the tables after it
 
 module _ (hw : HardwareAddress) where
-  synced_turn : (s : Slaac) (t : IfaceAddrs) (r : Routes) (i : ℕ) (now : Instant) (k : Clock) (w : PollAnswer) → (sync_due s k).expired ≡ true
+  synced_turn : (s : Slaac) (t : IfaceAddrs) (r : Routes) (i : ℕ) (now : Instant) (k : Clock) (w : Result PollAnswer Refusal) → (sync_due s k).expired ≡ true
       → ((sync_turn s t r i hw now k w).polled.addrs ≡ fold_over (sync_prefix hw now) t (prefixes_of s))
       × ((sync_turn s t r i hw now k w).polled.routes ≡ fold_over (sync_router i now) r (routers_of s))
   unfolding sync_turn sync_addrs sync_routes
   synced_turn s t r i now k w due = (rw due, rw due)
 
-  synced_poll : (x : Check) (s : Slaac) (t : IfaceAddrs) (r : Routes) (i : ℕ) (up : Bool) (buf : List ℕ) (k : Clock) → x ≡ Fine → s.on ≡ true
+  synced_poll : (x : Result (Unit {0}) Refusal) (s : Slaac) (t : IfaceAddrs) (r : Routes) (i : ℕ) (up : Bool) (buf : List ℕ) (k : Clock) → x ≡ Ok tt → s.on ≡ true
       → ((c : Clock) → c.now ≡ k.now → (sync_due s c).expired ≡ true)
       → ((poll_by x s t r i up hw buf k).polled.addrs ≡ fold_over (sync_prefix hw k.now) t (prefixes_of s))
       × ((poll_by x s t r i up hw buf k).polled.routes ≡ fold_over (sync_router i k.now) r (routers_of s))
   unfolding sync_due
-  synced_poll (Fails why) s t r i up buf k fine on due = absurd (refused_fine why fine)
-  synced_poll Fine s t r i up buf k fine on due =
+  synced_poll (Err why) s t r i up buf k fine on due = absurd (refused_fine why fine)
+  synced_poll (Ok tt) s t r i up buf k fine on due =
       poll_cases (λ q. (q.polled.addrs ≡ fold_over (sync_prefix hw k.now) t (prefixes_of s)) × (q.polled.routes ≡ fold_over (sync_router i k.now) r (routers_of s)))
       s t r i up hw buf k
       (λ e.
-      synced_turn (with_discovery s u.discovery) t r i k.now u.clock u.answer (due u.clock (turn_forward s.discovery (sender_in up t) buf k).now))
+      synced_turn (with_discovery s u.discovery) t r i k.now u.clock (Ok u.answer) (due u.clock (turn_forward s.discovery (sender_in up t) buf k).now))
       (λ e. absurd (true≢false (sym on ∙ e)))
     where
       u : Turn

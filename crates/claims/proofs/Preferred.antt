@@ -4,6 +4,8 @@ use mathlib.Core.Bool.{Bool, true, false, cond}
 use mathlib.Core.List.{List, [], ◌∷◌, ◌++◌}
 use mathlib.Core.Path.{◌≡◌, refl, sym, ap, ◌∙◌, subst}
 use native.Mathlib.Omega.{arith}
+use Rattle.std.specs.Prelude.{Result, Ok, Err}
+use Rattle.wire.specs.declared.error.Refusal.{Refusal}
 use Rattle.claims.proofs.Keeps.{Keeps, keep_run}
 use Rattle.claims.proofs.Lists.{entries_with}
 use Rattle.claims.proofs.Standing.{same_cidr_lem, at_once, outlasts, put_stands, drop_stands, add_stands, learned_all, leave_all, expired_other, other}
@@ -34,8 +36,6 @@ use Rattle.time.specs.declared.Expiry.{Expiry}
 use Rattle.time.specs.declared.Instant.{Instant}
 use Rattle.wire.specs.Rfc2464.{formed_of}
 use Rattle.wire.specs.Rfc4291.{same_cidr}
-use Rattle.wire.specs.declared.error.Check.TheVariants.{Fine, Refused as Fails}
-use Rattle.wire.specs.declared.error.Check.{Check}
 use Rattle.wire.specs.declared.ethernet.HardwareAddress.{HardwareAddress}
 use Rattle.wire.specs.declared.ipv6.Formed.TheVariants.{Nothing, Addr}
 use Rattle.wire.specs.declared.ipv6.Formed.{Formed}
@@ -109,9 +109,9 @@ module _ (w : Expiry) (hw : HardwareAddress) (a : Ipv6Cidr) where
       good_with t (at_first_is (is_addr c) gone [] (addrs_of t))
       (record { there = drop_stands a c n (addrs_of t) h.there; time = drop_till c n (addrs_of t) h.time })
 
-  good_added : (x : Check) (t : IfaceAddrs) (c : Ipv6Cidr) → good t → good (add_addr_by x t c).addrs
-  good_added (Fails why) t c h = h
-  good_added Fine t c h =
+  good_added : (x : Result (Unit {0}) Refusal) (t : IfaceAddrs) (c : Ipv6Cidr) → good t → good (add_addr_by x t c).addrs
+  good_added (Err why) t c h = h
+  good_added (Ok tt) t c h =
       good_with t (addrs_of t ++ (manual_addr c ∷ []))
       (record { there = add_stands a (manual_addr c) (addrs_of t) h.there; time = add_till (manual_addr c) (addrs_of t) h.time })
 

@@ -9,6 +9,7 @@ use mathlib.Core.Logic.{◌⊎◌, inl, inr}
 use mathlib.Core.Path.{◌≡◌, refl, ap, sym, subst, ◌∙◌}
 use native.Mathlib.Bridge.{le_by_compare, IsLe}
 use native.Mathlib.Omega.{arith}
+use Rattle.std.specs.Prelude.{Result, Ok, Err}
 use Rattle.autoconf.specs.AdvertRules.{message_rows, message_check, message_by, not_heard, advertised, AdvertisedTo}
 use Rattle.autoconf.specs.Answers.{advert_number, number_around, poll_number}
 use Rattle.autoconf.specs.OffRules.{off_by, TurnedOffTo}
@@ -34,7 +35,6 @@ use Rattle.ndisc.specs.OptionWalk.{walked, malformed_option, Steps}
 use Rattle.ndisc.specs.Rfc4861Messages.{not_advertisement, solicitation, solicit_in}
 use Rattle.ndisc.specs.Rfc4861Options.{malformed}
 use Rattle.ndisc.specs.declared.ndiscoption.Next.{Next}
-use Rattle.ndisc.specs.declared.ndiscoption.Written.{Written}
 use Rattle.neighbor.specs.Answers.{answer_number, got_number_is}
 use Rattle.neighbor.specs.CacheCalls.{key, put_in, clear_in, change_by, ChangedTo, remove_by, RemovedTo}
 use Rattle.neighbor.specs.NeighborRules.{lasting}
@@ -57,8 +57,6 @@ use Rattle.time.specs.declared.Clock.{Clock}
 use Rattle.time.specs.declared.Instant.{Instant}
 use Rattle.wire.proofs.Tests.{row_fails, row_holds, parts, or_else}
 use Rattle.wire.specs.Refusals.{Row, number_of, check_number, outcome_number, first_refusal, decided, iface_rows, time_rows, key_rows, fill_rows, time_check}
-use Rattle.wire.specs.declared.error.Check.TheVariants.{Fine, Refused}
-use Rattle.wire.specs.declared.error.Check.{Check}
 use Rattle.wire.specs.declared.error.Refusal.TheVariants.{Malformed, NotUnicast, TooLate, NoRoom, NotAdvertisement, NotLinkLocal, NoSuchIface, Full, Duplicate, PrefixTooLong}
 use Rattle.wire.specs.declared.error.Refusal.{Refusal}
 use Rattle.wire.specs.declared.ethernet.HardwareAddress.{HardwareAddress}
@@ -120,16 +118,16 @@ either (row ∷ rows) = go row.fails refl (either rows)
     go false f (inl first) = inl (first.0, below f first.1)
     go false f (inr none) = inr (f, none)
 
-first_refuses : {why : Refusal} (rows : List Row) → FirstFails why rows → first_refusal rows ≡ Refused why
-first_refuses rows (here {row = row} {rows = others} e f) = row_fails row others f ∙ ap Refused e
+first_refuses : {why : Refusal} (rows : List Row) → FirstFails why rows → first_refusal rows ≡ Err why
+first_refuses rows (here {row = row} {rows = others} e f) = row_fails row others f ∙ ap Err e
 first_refuses rows (below {row = row} {rows = others} f first) = row_holds row others f ∙ first_refuses others first
 
-none_refuses : (rows : List Row) → NoneFails rows → first_refusal rows ≡ Fine
+none_refuses : (rows : List Row) → NoneFails rows → first_refusal rows ≡ Ok tt
 none_refuses [] none = refl
 none_refuses (row ∷ rows) none = row_holds row rows none.0 ∙ none_refuses rows none.1
 
 module _ (rows : List Row) (number : ℕ) (AsItCame : Type 0) (is : number ≡ check_number (first_refusal rows))
-    (undone : (why : Refusal) → first_refusal rows ≡ Refused why → AsItCame) where
+    (undone : (why : Refusal) → first_refusal rows ≡ Err why → AsItCame) where
   first_number_lem : (why : Refusal) → FirstFails why rows → number ≡ number_of why
   first_number_lem why first = is ∙ ap check_number (first_refuses rows first)
 
@@ -166,25 +164,25 @@ module _ (rows : List Row) where
   changed : (c c' : NeighborCache) (r : Changed) → ChangedTo (first_refusal rows) c c' r → Refuses rows (outcome_number r.outcome) (r.cache ≡ c)
   changed c c' r h =
       refuses rows (outcome_number r.outcome) (r.cache ≡ c) h.number
-      (λ why e. ap (λ (x : Changed). x.cache) (h.is ∙ ap (λ (x : Check). change_by x c c') e))
+      (λ why e. ap (λ (x : Changed). x.cache) (h.is ∙ ap (λ (x : Result (Unit {0}) Refusal). change_by x c c') e))
 
   turned : (s s' : Slaac) (r : Turned) → TurnedTo (first_refusal rows) s s' r → Refuses rows (outcome_number r.outcome) (r.slaac ≡ s)
   turned s s' r h =
       refuses rows (outcome_number r.outcome) (r.slaac ≡ s) h.number
-      (λ why e. ap (λ (x : Turned). x.slaac) (h.is ∙ ap (λ (x : Check). turn_by x s s') e))
+      (λ why e. ap (λ (x : Turned). x.slaac) (h.is ∙ ap (λ (x : Result (Unit {0}) Refusal). turn_by x s s') e))
 
 removed : (c : NeighborCache) (iface : ℕ) (addr : Ipv6Addr) (r : Removed) → RemovedTo c iface addr r
     → Refuses (iface_rows iface) (got_number_is r.taken) (r.cache ≡ c)
 removed c iface addr r h =
     refuses (iface_rows iface) (got_number_is r.taken) (r.cache ≡ c) h.number
-    (λ why e. ap (λ (x : Removed). x.cache) (h.is ∙ ap (λ (x : Check). remove_by x c (key iface addr)) e))
+    (λ why e. ap (λ (x : Removed). x.cache) (h.is ∙ ap (λ (x : Result (Unit {0}) Refusal). remove_by x c (key iface addr)) e))
 
 -- the sweep
 
-unswept : (why : Refusal) (c : NeighborCache) (k : Clock) (iface : ℕ) (x : Check) → x ≡ Refused why
+unswept : (why : Refusal) (c : NeighborCache) (k : Clock) (iface : ℕ) (x : Result (Unit {0}) Refusal) → x ≡ Err why
     → Unswept c k (sweep_by x c k iface).cache (sweep_by x c k iface).clock (sweep_by x c k iface).events
 unfolding events_table
-unswept why c k iface x e = subst (λ (y : Check). Unswept c k (sweep_by y c k iface).cache (sweep_by y c k iface).clock (sweep_by y c k iface).events) (sym e) (refl, refl, refl)
+unswept why c k iface x e = subst (λ (y : Result (Unit {0}) Refusal). Unswept c k (sweep_by y c k iface).cache (sweep_by y c k iface).clock (sweep_by y c k iface).events) (sym e) (refl, refl, refl)
 
 swept_at : (c : NeighborCache) (k : Clock) (iface : ℕ) (r : Swept) → SweptTo c k iface r
     → Refuses (time_rows k.now iface) (outcome_number r.outcome) (Unswept c k r.cache r.clock r.events)
@@ -208,7 +206,7 @@ pushed : (q : PendingQueue) (iface : ℕ) (addr : Ipv6Addr) (handle : ℕ) (r : 
 pushed q iface addr handle r h =
     refuses (iface_rows iface) (push_number r.answer) ((r.queue ≡ q) × (pushed_out r.answer ≡ [])) h.number
     (λ why e.
-    let is : r ≡ push_by (Refused why) q (packet (key iface addr) handle) = h.is ∙ ap (λ (x : Check). push_by x q (packet (key iface addr) handle)) e in
+    let is : r ≡ push_by (Err why) q (packet (key iface addr) handle) = h.is ∙ ap (λ (x : Result (Unit {0}) Refusal). push_by x q (packet (key iface addr) handle)) e in
     (ap (λ (x : Pushed). x.queue) is, ap (λ (x : Pushed). pushed_out x.answer) is))
 
 released : (q : PendingQueue) (iface : ℕ) (addr : Ipv6Addr) (r : Released) → ReleasedTo q iface addr r
@@ -216,7 +214,7 @@ released : (q : PendingQueue) (iface : ℕ) (addr : Ipv6Addr) (r : Released) →
 released q iface addr r h =
     refuses (iface_rows iface) (release_number r.answer) ((r.queue ≡ q) × (released_out r.answer ≡ [])) h.number
     (λ why e.
-    let is : r ≡ release_by (Refused why) q (key iface addr) = h.is ∙ ap (λ (x : Check). release_by x q (key iface addr)) e in
+    let is : r ≡ release_by (Err why) q (key iface addr) = h.is ∙ ap (λ (x : Result (Unit {0}) Refusal). release_by x q (key iface addr)) e in
     (ap (λ (x : Released). x.queue) is, ap (λ (x : Released). released_out x.answer) is))
 
 purged : (q : PendingQueue) (iface : ℕ) (r : Purged) → PurgedTo q iface r
@@ -224,7 +222,7 @@ purged : (q : PendingQueue) (iface : ℕ) (r : Purged) → PurgedTo q iface r
 purged q iface r h =
     refuses (iface_rows iface) (outcome_number r.outcome) ((r.queue ≡ q) × (r.handles.len ≡ 0)) h.number
     (λ why e.
-    let is : r ≡ purge_by (Refused why) q (on_iface iface) = h.is ∙ ap (λ (x : Check). purge_by x q (on_iface iface)) e in
+    let is : r ≡ purge_by (Err why) q (on_iface iface) = h.is ∙ ap (λ (x : Result (Unit {0}) Refusal). purge_by x q (on_iface iface)) e in
     (ap (λ (x : Purged). x.queue) is, ap (λ (x : Purged). x.handles.len) is))
 
 -- the application's calls
@@ -233,13 +231,13 @@ added : (t : IfaceAddrs) (iface : ℕ) (c : Ipv6Cidr) (r : Added) → AddedTo t 
     → Refuses (addr_rows iface c (addrs_of t)) (outcome_number r.outcome) (r.addrs ≡ t)
 added t iface c r h =
     refuses (addr_rows iface c (addrs_of t)) (outcome_number r.outcome) (r.addrs ≡ t) h.number
-    (λ why e. ap (λ (x : Added). x.addrs) (h.is ∙ ap (λ (x : Check). add_addr_by x t c) e))
+    (λ why e. ap (λ (x : Added). x.addrs) (h.is ∙ ap (λ (x : Result (Unit {0}) Refusal). add_addr_by x t c) e))
 
 added_route : (t : Routes) (iface : ℕ) (c : Ipv6Cidr) (via : Ipv6Addr) (r : AddedRoute) → AddedRouteTo t iface c via r
     → Refuses (route_rows iface c via (routes_of t)) (outcome_number r.outcome) (r.routes ≡ t)
 added_route t iface c via r h =
     refuses (route_rows iface c via (routes_of t)) (outcome_number r.outcome) (r.routes ≡ t) h.number
-    (λ why e. ap (λ (x : AddedRoute). x.routes) (h.is ∙ ap (λ (x : Check). add_route_by x t (manual_route iface c via)) e))
+    (λ why e. ap (λ (x : AddedRoute). x.routes) (h.is ∙ ap (λ (x : Result (Unit {0}) Refusal). add_route_by x t (manual_route iface c via)) e))
 
 -- turning SLAAC off
 
@@ -248,29 +246,29 @@ turned_off : (s : Slaac) (t : IfaceAddrs) (r : Routes) (c : NeighborCache) (q : 
 turned_off s t r c q iface x h =
     refuses (iface_rows iface) (outcome_number x.outcome) (NotTurnedOff s t r c q x) h.number
     (λ why e.
-    let is : x ≡ off_by (Refused why) s t r c q iface = h.is ∙ ap (λ (y : Check). off_by y s t r c q iface) e in
+    let is : x ≡ off_by (Err why) s t r c q iface = h.is ∙ ap (λ (y : Result (Unit {0}) Refusal). off_by y s t r c q iface) e in
     subst (NotTurnedOff s t r c q) (sym is) (refl, refl, refl, refl, refl, refl))
 
 -- an advertisement
 
-around : (x : Check) (on : Bool) (rows : List Row) → number_around x on (first_refusal rows) ≡ check_number (or_else x (first_refusal (cond on rows [])))
-around (Refused why) on rows = refl
-around Fine true rows = refl
-around Fine false rows = refl
+around : (x : Result (Unit {0}) Refusal) (on : Bool) (rows : List Row) → number_around x on (first_refusal rows) ≡ check_number (or_else x (first_refusal (cond on rows [])))
+around (Err why) on rows = refl
+around (Ok tt) true rows = refl
+around (Ok tt) false rows = refl
 
 module _ (s : Slaac) (c : NeighborCache) (iface : ℕ) (source : Ipv6Addr) (msg : List ℕ) (now : Instant) where
-  abbrev heard_by : Check → Bool → Advertised
-  heard_by x on = decided x (not_heard s c) (cond on (message_by (message_check source msg) s c iface source msg now) (advertised s c NotHeard))
+  abbrev heard_by : Result (Unit {0}) Refusal → Bool → Advertised
+  heard_by x on = decided x (not_heard s c) (cond on (message_by (message_check source msg) s c iface source msg now) (advertised s c (Ok NotHeard)))
 
-  unheard : (why : Refusal) (x : Check) (on : Bool) → or_else x (first_refusal (cond on (message_rows source msg) [])) ≡ Refused why → Unheard s c (heard_by x on)
-  unheard why (Refused other) on e = (refl, refl)
-  unheard why Fine true e = subst (λ (y : Check). Unheard s c (message_by y s c iface source msg now)) (sym e) (refl, refl)
-  unheard why Fine false e = (refl, refl)
+  unheard : (why : Refusal) (x : Result (Unit {0}) Refusal) (on : Bool) → or_else x (first_refusal (cond on (message_rows source msg) [])) ≡ Err why → Unheard s c (heard_by x on)
+  unheard why (Err other) on e = (refl, refl)
+  unheard why (Ok tt) true e = subst (λ (y : Result (Unit {0}) Refusal). Unheard s c (message_by y s c iface source msg now)) (sym e) (refl, refl)
+  unheard why (Ok tt) false e = (refl, refl)
 
-  unheard_off : (x : Check) (on : Bool) → x ≡ Fine → on ≡ false → ((heard_by x on).answer ≡ NotHeard) × Unheard s c (heard_by x on)
+  unheard_off : (x : Result (Unit {0}) Refusal) (on : Bool) → x ≡ Ok tt → on ≡ false → ((heard_by x on).answer ≡ Ok NotHeard) × Unheard s c (heard_by x on)
   unheard_off x on e f =
-      subst (λ (y : Check). ((heard_by y on).answer ≡ NotHeard) × Unheard s c (heard_by y on)) (sym e)
-      (subst (λ (b : Bool). ((heard_by Fine b).answer ≡ NotHeard) × Unheard s c (heard_by Fine b)) (sym f) (refl, (refl, refl)))
+      subst (λ (y : Result (Unit {0}) Refusal). ((heard_by y on).answer ≡ Ok NotHeard) × Unheard s c (heard_by y on)) (sym e)
+      (subst (λ (b : Bool). ((heard_by (Ok tt) b).answer ≡ Ok NotHeard) × Unheard s c (heard_by (Ok tt) b)) (sym f) (refl, (refl, refl)))
 
   module _ (r : Advertised) (h : AdvertisedTo s c iface source msg now r) where
     advertised_to : Refuses (advert_rows s.on now iface source msg) (advert_number r.answer) (Unheard s c r)
@@ -282,34 +280,34 @@ module _ (s : Slaac) (c : NeighborCache) (iface : ℕ) (source : Ipv6Addr) (msg 
         rows_parts : first_refusal (advert_rows s.on now iface source msg) ≡ or_else (time_check now iface) (first_refusal (cond s.on (message_rows source msg) []))
         rows_parts = parts (time_rows now iface) (cond s.on (message_rows source msg) [])
 
-    advertised_off : s.on ≡ false → NoneFails (time_rows now iface) → (r.answer ≡ NotHeard) × Unheard s c r
+    advertised_off : s.on ≡ false → NoneFails (time_rows now iface) → (r.answer ≡ Ok NotHeard) × Unheard s c r
     advertised_off off none =
-        subst (λ (x : Advertised). (x.answer ≡ NotHeard) × Unheard s c x) (sym h.is)
+        subst (λ (x : Advertised). (x.answer ≡ Ok NotHeard) × Unheard s c x) (sym h.is)
         (unheard_off (time_check now iface) s.on (none_refuses (time_rows now iface) none) off)
 
 -- the poll
 
 module _ (s : Slaac) (t : IfaceAddrs) (r : Routes) (iface : ℕ) (up : Bool) (hw : HardwareAddress) (buf : List ℕ) (k : Clock) where
-  abbrev polled_by : Check → Bool → PolledAt
-  polled_by x on = decided x (not_polled s t r k) (cond on (poll_on s t r iface up hw buf k) (polled s t r k Off))
+  abbrev polled_by : Result (Unit {0}) Refusal → Bool → PolledAt
+  polled_by x on = decided x (not_polled s t r k) (cond on (poll_on s t r iface up hw buf k) (polled s t r k (Ok Off)))
 
-  abbrev buffer_by : Check → Bool → List ℕ
-  buffer_by (Refused why) on = buf
-  buffer_by Fine on = cond on (buffer_of s.discovery (sender_in up t) hw buf k) buf
+  abbrev buffer_by : Result (Unit {0}) Refusal → Bool → List ℕ
+  buffer_by (Err why) on = buf
+  buffer_by (Ok tt) on = cond on (buffer_of s.discovery (sender_in up t) hw buf k) buf
 
   abbrev Left : PolledAt → List ℕ → Type 0
   Left p buf' = Unpolled s t r k buf p.polled p.clock buf'
 
   abbrev IsOff : PolledAt → List ℕ → Type 0
-  IsOff p buf' = (p.polled.answer ≡ Off) × Left p buf'
+  IsOff p buf' = (p.polled.answer ≡ Ok Off) × Left p buf'
 
-  left : (why : Refusal) (x : Check) → x ≡ Refused why → Left (polled_by x s.on) (poll_buffer x s t up hw buf k)
-  left why x e = subst (λ (y : Check). Left (polled_by y s.on) (poll_buffer y s t up hw buf k)) (sym e) (refl, refl, refl, refl, refl)
+  left : (why : Refusal) (x : Result (Unit {0}) Refusal) → x ≡ Err why → Left (polled_by x s.on) (poll_buffer x s t up hw buf k)
+  left why x e = subst (λ (y : Result (Unit {0}) Refusal). Left (polled_by y s.on) (poll_buffer y s t up hw buf k)) (sym e) (refl, refl, refl, refl, refl)
 
-  left_off : (x : Check) → x ≡ Fine → s.on ≡ false → IsOff (polled_by x s.on) (poll_buffer x s t up hw buf k)
+  left_off : (x : Result (Unit {0}) Refusal) → x ≡ Ok tt → s.on ≡ false → IsOff (polled_by x s.on) (poll_buffer x s t up hw buf k)
   left_off x e off =
-      subst (λ (y : Check). IsOff (polled_by y s.on) (poll_buffer y s t up hw buf k)) (sym e)
-      (subst (λ (b : Bool). IsOff (polled_by Fine b) (buffer_by Fine b)) (sym off) (refl, (refl, refl, refl, refl, refl)))
+      subst (λ (y : Result (Unit {0}) Refusal). IsOff (polled_by y s.on) (poll_buffer y s t up hw buf k)) (sym e)
+      (subst (λ (b : Bool). IsOff (polled_by (Ok tt) b) (buffer_by (Ok tt) b)) (sym off) (refl, (refl, refl, refl, refl, refl)))
 
   module _ (p : PolledAt) (buf' : List ℕ) (h : PolledTo s t r iface up hw buf k p buf') where
     becomes : (P : PolledAt → List ℕ → Type 0)
@@ -321,7 +319,7 @@ module _ (s : Slaac) (t : IfaceAddrs) (r : Routes) (iface : ℕ) (up : Bool) (hw
         refuses (time_rows k.now iface) (poll_number p.polled.answer) (Left p buf') h.number
         (λ why e. becomes Left (left why (time_check k.now iface) e))
 
-    polled_at_off : s.on ≡ false → NoneFails (time_rows k.now iface) → (p.polled.answer ≡ Off) × Unpolled s t r k buf p.polled p.clock buf'
+    polled_at_off : s.on ≡ false → NoneFails (time_rows k.now iface) → (p.polled.answer ≡ Ok Off) × Unpolled s t r k buf p.polled p.clock buf'
     polled_at_off off none = becomes IsOff (left_off (time_check k.now iface) (none_refuses (time_rows k.now iface) none) off)
 
   -- the clock lent is the clock by value
@@ -343,7 +341,7 @@ cond_row : (why : Refusal) (b : Bool) → cond b (number_of why) 0 ≡ check_num
 cond_row why true = refl
 cond_row why false = refl
 
-module _ (msg : List ℕ) (at : ℕ) (bs : List ℕ) (r : Written) (msg' : List ℕ) (h : Wrote msg at bs r msg') where
+module _ (msg : List ℕ) (at : ℕ) (bs : List ℕ) (r : Result (Unit {0}) Refusal) (msg' : List ℕ) (h : Wrote msg at bs r msg') where
   written : Refuses (write_rows msg at bs) (written_number r) (msg' ≡ msg)
   written = refuses (write_rows msg at bs) (written_number r) (msg' ≡ msg) (h.number ∙ by_room (room msg at (length bs))) (λ why e. h.leaves ∙ kept why (room msg at (length bs)) e)
     where
@@ -351,7 +349,7 @@ module _ (msg : List ℕ) (at : ℕ) (bs : List ℕ) (r : Written) (msg' : List 
       by_room true = refl
       by_room false = refl
 
-      kept : (why : Refusal) (b : Bool) → first_refusal (record { refusal = NoRoom; fails = not b } ∷ []) ≡ Refused why
+      kept : (why : Refusal) (b : Bool) → first_refusal (record { refusal = NoRoom; fails = not b } ∷ []) ≡ Err why
           → cond b (take at msg ++ bs ++ drop (at + length bs) msg) msg ≡ msg
       kept why true e = let z : 0 ≡ number_of why = ap check_number e in let p = above_none why in absurd (omega (arith, z, p))
       kept why false e = refl

@@ -8,6 +8,8 @@ use mathlib.Core.List.{List, [], ◌∷◌, ◌++◌}
 use mathlib.Core.Logic.{inl, inr}
 use mathlib.Core.Path.{◌≡◌, refl, sym, ap, ◌∙◌, subst}
 use native.Mathlib.Omega.{arith}
+use Rattle.std.specs.Prelude.{Result, Ok, Err}
+use Rattle.wire.specs.declared.error.Refusal.{Refusal}
 use Rattle.claims.proofs.Arrives.{router_asked, call_taken, file_starts, file_hears, file_syncs, file_second, file_both, file_polls}
 use Rattle.claims.proofs.Backed.{steps_on}
 use Rattle.claims.proofs.Clocks.{turn_forward}
@@ -58,8 +60,6 @@ use Rattle.time.specs.declared.Instant.{Instant}
 use Rattle.wire.specs.Refusals.{time_check}
 use Rattle.wire.specs.Rfc2464.{formed_of}
 use Rattle.wire.specs.Rfc4291.{same_addr}
-use Rattle.wire.specs.declared.error.Check.{Check}
-use Rattle.wire.specs.declared.error.Check.TheVariants.{Fine, Refused as Fails}
 use Rattle.wire.specs.declared.ethernet.HardwareAddress.{HardwareAddress}
 use Rattle.wire.specs.declared.ipv6.Ipv6Addr.{Ipv6Addr}
 use Rattle.wire.specs.declared.ipv6.Ipv6Cidr.{Ipv6Cidr}
@@ -116,10 +116,10 @@ module _ (i : ℕ) (via : Ipv6Addr) where
   led_apart : (s : Slaac) (r r' : Routes) → ours i via (routes_of r') ≡ ours i via (routes_of r) → LedBy s r → LedBy s r'
   led_apart s r r' e g = subst (Led s) (sym e) g
 
-  added_apart : (x : Check) (t : Routes) (j : ℕ) (c : Ipv6Cidr) (by : Ipv6Addr)
+  added_apart : (x : Result (Unit {0}) Refusal) (t : Routes) (j : ℕ) (c : Ipv6Cidr) (by : Ipv6Addr)
       → ours i via (routes_of (add_route_by x t (manual_route j c by)).routes) ≡ ours i via (routes_of t)
-  added_apart (Fails why) t j c by = refl
-  added_apart Fine t j c by =
+  added_apart (Err why) t j c by = refl
+  added_apart (Ok tt) t j c by =
       ap (ours i via) (entries_with t.slots (routes_of t ++ (manual_route j c by ∷ []))) ∙ add_apart i via j c by (routes_of t)
 
   none_left : (r : Routes) → length (ours i via (routes_of (with_routes r (clear_routes i (routes_of r))))) ≤ 0
@@ -169,7 +169,7 @@ module _ (i : ℕ) (via : Ipv6Addr) where
 
   -- A poll that is taken after the router's end
 
-  gone_sync : (s : Slaac) (t : IfaceAddrs) (r : Routes) (hw : HardwareAddress) (now : Instant) (k : Clock) (w : PollAnswer) → k.now ≡ now → LedBy s r
+  gone_sync : (s : Slaac) (t : IfaceAddrs) (r : Routes) (hw : HardwareAddress) (now : Instant) (k : Clock) (w : Result PollAnswer Refusal) → k.now ≡ now → LedBy s r
       → RouterEnded via now s → length (ours i via (routes_of (sync_turn s t r i hw now k w).polled.routes)) ≤ 0
   unfolding sync_routes
   gone_sync s t r hw now k w same g l =
@@ -186,13 +186,13 @@ module _ (i : ℕ) (via : Ipv6Addr) where
           due_router s k now same
           (some_apply (λ q. is_router via q ≡ true) (λ q. is_after (At q.valid_until) now ≡ false) (routers_of s) (some_any (is_router via) (routers_of s) (g.router h)) l)
 
-  gone_poll : (x : Check) (s : Slaac) (t : IfaceAddrs) (r : Routes) (up : Bool) (hw : HardwareAddress) (buf : List ℕ) (k : Clock) → x ≡ Fine → LedBy s r
+  gone_poll : (x : Result (Unit {0}) Refusal) (s : Slaac) (t : IfaceAddrs) (r : Routes) (up : Bool) (hw : HardwareAddress) (buf : List ℕ) (k : Clock) → x ≡ Ok tt → LedBy s r
       → RouterEnded via k.now s → length (ours i via (routes_of (poll_by x s t r i up hw buf k).polled.routes)) ≤ 0
-  gone_poll (Fails why) s t r up hw buf k fine g l = absurd (refused_fine why fine)
-  gone_poll Fine s t r up hw buf k fine g l =
+  gone_poll (Err why) s t r up hw buf k fine g l = absurd (refused_fine why fine)
+  gone_poll (Ok tt) s t r up hw buf k fine g l =
       poll_cases (λ q. length (ours i via (routes_of q.polled.routes)) ≤ 0) s t r i up hw buf k
       (λ e.
-      gone_sync (with_discovery s u.discovery) t r hw k.now u.clock u.answer (turn_forward s.discovery (sender_in up t) buf k).now
+      gone_sync (with_discovery s u.discovery) t r hw k.now u.clock (Ok u.answer) (turn_forward s.discovery (sender_in up t) buf k).now
       (record { once = g.once; off = g.off; router = g.router }) l)
       (λ e. g.off e)
     where

@@ -4,6 +4,8 @@ use lib.ListN.{take}
 use mathlib.Core.Bool.{Bool}
 use mathlib.Core.List.{List, [], ◌∷◌, ◌++◌}
 use mathlib.Core.Path.{◌≡◌, refl, ap}
+use Rattle.std.specs.Prelude.{Result, Ok, Err, Option}
+use Rattle.wire.specs.declared.error.Refusal.{Refusal}
 use Rattle.autoconf.specs.AdvertRules.{call_by}
 use Rattle.autoconf.specs.declared.AdvertAnswer.{AdvertAnswer}
 use Rattle.autoconf.specs.declared.Advertised.{Advertised}
@@ -22,7 +24,7 @@ use Rattle.mainloop.specs.declared.Turned.{Turned}
 use Rattle.mainloop.specs.declared.Woken.{Woken}
 use Rattle.neighbor.specs.CacheCalls.{key, lookup_by}
 use Rattle.neighbor.specs.NeighborRules.{Key, lasting, insert_state}
-use Rattle.neighbor.specs.declared.Answer.TheVariants.{Refused as NotAsked, Found, Pending, NotFound}
+use Rattle.neighbor.specs.declared.Answer.TheVariants.{Found, Pending, NotFound}
 use Rattle.neighbor.specs.declared.Answer.{Answer}
 use Rattle.neighbor.specs.declared.NeighborCache.{NeighborCache}
 use Rattle.neighbor.specs.declared.State.TheVariants.{Started}
@@ -35,13 +37,8 @@ use Rattle.sweep.specs.SweepCalls.{sweep_check}
 use Rattle.table.specs.Table.{fold_over}
 use Rattle.time.specs.ClockRules.{idle}
 use Rattle.time.specs.declared.Clock.{Clock}
-use Rattle.time.specs.declared.Deadline.{Deadline}
 use Rattle.time.specs.declared.Instant.{Instant}
 use Rattle.wire.specs.Refusals.{iface_check, time_check, key_check, fill_check, decided}
-use Rattle.wire.specs.declared.error.Check.TheVariants.{Fine, Refused as Fails}
-use Rattle.wire.specs.declared.error.Check.{Check}
-use Rattle.wire.specs.declared.error.Outcome.TheVariants.{Refused as NotDone, Done}
-use Rattle.wire.specs.declared.error.Outcome.{Outcome}
 use Rattle.wire.specs.declared.ethernet.HardwareAddress.{HardwareAddress}
 use Rattle.wire.specs.declared.ipv6.Ipv6Addr.{Ipv6Addr}
 
@@ -89,11 +86,11 @@ module _ (x y : Card) (s : SameCard x y) where
       started : Same (start_of x addr).cache (start_of y addr).cache
       started = (change_same x.cache y.cache s.cache (key_check 0 addr) (insert_state (key 0 addr) Started)).1
 
-      go : (known : Answer) → AlikeTaken (sent_by known x addr handle) (sent_by known y addr handle)
-      go (NotAsked why) = as_it_was (Refused why) []
-      go (Found hw) = as_it_was (Send hw) (handle ∷ [])
-      go Pending = record { card = with s.slaac s.cache pushed.1; action = ap Wait pushed.0; ready = refl }
-      go NotFound = record { card = with s.slaac started pushed.1; action = ap Solicit pushed.0; ready = refl }
+      go : (known : Result Answer Refusal) → AlikeTaken (sent_by known x addr handle) (sent_by known y addr handle)
+      go (Err why) = as_it_was (Refused why) []
+      go (Ok (Found hw)) = as_it_was (Send hw) (handle ∷ [])
+      go (Ok Pending) = record { card = with s.slaac s.cache pushed.1; action = ap Wait pushed.0; ready = refl }
+      go (Ok NotFound) = record { card = with s.slaac started pushed.1; action = ap Solicit pushed.0; ready = refl }
 
   filled_same : (addr : Ipv6Addr) (hw : HardwareAddress) (now : Instant) → AlikeTaken (filled x addr hw now) (filled y addr hw now)
   unfolding filled fill_of
@@ -102,37 +99,37 @@ module _ (x y : Card) (s : SameCard x y) where
       changed : ((fill_of x addr hw now).outcome ≡ (fill_of y addr hw now).outcome) × Same (fill_of x addr hw now).cache (fill_of y addr hw now).cache
       changed = change_same x.cache y.cache s.cache (fill_check now 0 addr hw) (insert_state (key 0 addr) (lasting hw now))
 
-      go : (o : Outcome) → AlikeTaken (filled_by o x addr hw (fill_of x addr hw now).cache) (filled_by o y addr hw (fill_of y addr hw now).cache)
-      go (NotDone why) = as_it_was (Refused why) []
-      go Done = goes_same (Send hw) (fill_of x addr hw now).cache (fill_of y addr hw now).cache (key 0 addr) changed.1
+      go : (o : Result (Unit {0}) Refusal) → AlikeTaken (filled_by o x addr hw (fill_of x addr hw now).cache) (filled_by o y addr hw (fill_of y addr hw now).cache)
+      go (Err why) = as_it_was (Refused why) []
+      go (Ok tt) = goes_same (Send hw) (fill_of x addr hw now).cache (fill_of y addr hw now).cache (key 0 addr) changed.1
 
   learned_same : (addr : Ipv6Addr) (hw : HardwareAddress) (now : Instant) → AlikeTaken (learned x addr hw now) (learned y addr hw now)
   unfolding learned
   learned_same addr hw now =
       rw (lookup_same x.cache y.cache s.cache (key_check 0 addr) (key 0 addr)) (go (lookup_by (key_check 0 addr) y.cache (key 0 addr)))
     where
-      go : (known : Answer) → AlikeTaken (learned_by known x addr hw now) (learned_by known y addr hw now)
-      go (NotAsked why) = as_it_was (Refused why) []
-      go NotFound = as_it_was Nothing []
-      go Pending = filled_same addr hw now
-      go (Found old) = filled_same addr hw now
+      go : (known : Result Answer Refusal) → AlikeTaken (learned_by known x addr hw now) (learned_by known y addr hw now)
+      go (Err why) = as_it_was (Refused why) []
+      go (Ok NotFound) = as_it_was Nothing []
+      go (Ok Pending) = filled_same addr hw now
+      go (Ok (Found old)) = filled_same addr hw now
 
   heard_same : (source : Ipv6Addr) (message : List ℕ) (now : Instant) → AlikeTaken (heard x source message now) (heard y source message now)
   unfolding heard
   heard_same source message now = rw s.slaac (heard_by_lem (call_by (time_check now 0) y.slaac x.cache 0 source message now) (call_by (time_check now 0) y.slaac y.cache 0 source message now) (advert_same y.slaac x.cache y.cache 0 source message now s.cache (time_check now 0)))
     where
-      known_by : (known : Answer) (r q : Advertised) → (r.slaac ≡ q.slaac) × (r.answer ≡ q.answer) × Same r.cache q.cache
+      known_by : (known : Result Answer Refusal) (r q : Advertised) → (r.slaac ≡ q.slaac) × (r.answer ≡ q.answer) × Same r.cache q.cache
           → AlikeTaken (heard_by known (card_with x r.slaac r.cache x.queue) source r.answer)
           (heard_by known (card_with y q.slaac q.cache y.queue) source q.answer)
-      known_by (Found hw) r q e =
+      known_by (Ok (Found hw)) r q e =
           record {
             card = with e.0 e.2 (ready_queue (key 0 source) x.queue y.queue s.queue);
-            action = ap (λ (a : AdvertAnswer). HeardFrom a hw) e.1;
+            action = ap (λ (a : Result AdvertAnswer Refusal). HeardFrom a hw) e.1;
             ready = ready_handles (key 0 source) x.queue y.queue s.queue;
           }
-      known_by (NotAsked why) r q e = record { card = with e.0 e.2 s.queue; action = ap Heard e.1; ready = refl }
-      known_by Pending r q e = record { card = with e.0 e.2 s.queue; action = ap Heard e.1; ready = refl }
-      known_by NotFound r q e = record { card = with e.0 e.2 s.queue; action = ap Heard e.1; ready = refl }
+      known_by (Err why) r q e = record { card = with e.0 e.2 s.queue; action = ap Heard e.1; ready = refl }
+      known_by (Ok Pending) r q e = record { card = with e.0 e.2 s.queue; action = ap Heard e.1; ready = refl }
+      known_by (Ok NotFound) r q e = record { card = with e.0 e.2 s.queue; action = ap Heard e.1; ready = refl }
 
       heard_by_lem : (r q : Advertised) → (r.slaac ≡ q.slaac) × (r.answer ≡ q.answer) × Same r.cache q.cache
           → AlikeTaken (heard_as x source r) (heard_as y source q)
@@ -149,9 +146,9 @@ module _ (x y : Card) (s : SameCard x y) where
       given_in (NeighborAdvert addr hw) = learned_same addr hw now
       given_in (Packet addr handle) = sent_same addr handle
 
-      go : (c : Check) → AlikeTaken (taken_by c x input message now) (taken_by c y input message now)
-      go (Fails why) = as_it_was (Refused why) []
-      go Fine = given_in input
+      go : (c : Result (Unit {0}) Refusal) → AlikeTaken (taken_by c x input message now) (taken_by c y input message now)
+      go (Err why) = as_it_was (Refused why) []
+      go (Ok tt) = given_in input
 
   -- Settling
 
@@ -183,9 +180,9 @@ module _ (x y : Card) (s : SameCard x y) where
       polled : AlikeAt (poll_of x up hw buf now) (poll_of y up hw buf now)
       polled = rw (s.slaac, s.addrs) (poll_same x.routes y.routes s.routes y.addrs 0 hw y.slaac up buf (idle now) (time_check now 0))
 
-      go : (c : Check) → AlikeSettled (decided c (not_settled x) (settled_after x (poll_of x up hw buf now))) (decided c (not_settled y) (settled_after y (poll_of y up hw buf now)))
-      go (Fails why) = record { card = s; answer = refl; events = refl; dropped = refl; wake = refl }
-      go Fine = settled_after_lem (poll_of x up hw buf now) (poll_of y up hw buf now) polled
+      go : (c : Result (Unit {0}) Refusal) → AlikeSettled (decided c (not_settled x) (settled_after x (poll_of x up hw buf now))) (decided c (not_settled y) (settled_after y (poll_of y up hw buf now)))
+      go (Err why) = record { card = s; answer = refl; events = refl; dropped = refl; wake = refl }
+      go (Ok tt) = settled_after_lem (poll_of x up hw buf now) (poll_of y up hw buf now) polled
 
   pub buffer_same : (up : Bool) (hw : HardwareAddress) (buf : List ℕ) (now : Instant) → buffer_after x up hw buf now ≡ buffer_after y up hw buf now
   unfolding buffer_after
@@ -241,7 +238,7 @@ turns_same received hw (w ∷ ws) b d s = turns_same received hw ws (turn_in rec
           reports = λ i. s.reports i ++ (turn.report i ∷ []);
         }
 
-pub ran_same : (x y : Card) (wake : Deadline) (inbox : Inbox) (received : List ℕ) (hw : HardwareAddress) (buf : List ℕ) (budget : ℕ) → SameCard x y
+pub ran_same : (x y : Card) (wake : Option Instant) (inbox : Inbox) (received : List ℕ) (hw : HardwareAddress) (buf : List ℕ) (budget : ℕ) → SameCard x y
     → SameBetween (run_over x wake inbox received hw buf budget) (run_over y wake inbox received hw buf budget)
 unfolding run_over
 ran_same x y wake inbox received hw buf budget s =

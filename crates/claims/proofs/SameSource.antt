@@ -6,6 +6,8 @@ use mathlib.Core.Bool.{Bool, true, false, cond, true≢false}
 use mathlib.Core.List.{List, [], ◌∷◌, ◌++◌}
 use mathlib.Core.Path.{◌≡◌, refl, sym, ap, ◌∙◌, subst}
 use native.Mathlib.Omega.{arith}
+use Rattle.std.specs.Prelude.{Option, Some, None, Result, Ok, Err}
+use Rattle.wire.specs.declared.error.Refusal.{Refusal}
 use Rattle.claims.proofs.Backed.{formed_is, on_sync}
 use Rattle.claims.proofs.Keeps.{Keeps, keep_step, keep_run, call_keeps, restart_keeps}
 use Rattle.claims.proofs.Lists.{either_none, all_of, all_append, all_first, all_if, all_kept, all_with}
@@ -29,8 +31,6 @@ use Rattle.iface.specs.declared.addr.Added.{Added}
 use Rattle.iface.specs.declared.addr.IfaceAddr.{IfaceAddr}
 use Rattle.iface.specs.declared.addr.IfaceAddrs.{IfaceAddrs}
 use Rattle.iface.specs.declared.addr.Preferred.{Preferred}
-use Rattle.iface.specs.declared.addr.Source.{Source}
-use Rattle.iface.specs.declared.addr.Source.TheVariants.{Nothing as NoSource, From}
 use Rattle.iface.specs.declared.route.Routes.{Routes}
 use Rattle.mainloop.specs.LoopRules.{card_with, sent_by, sent, fill_of, filled_by, filled, learned_by, learned as learnedOf, heard_by, heard, taken_in, taken_by, poll_of, not_settled, settled_after, settled, SettledTo}
 use Rattle.mainloop.specs.declared.Card.{Card}
@@ -43,7 +43,7 @@ use Rattle.ndisc.specs.Rfc4443Checksum.{checksum_of}
 use Rattle.ndisc.specs.declared.ndiscoption.PrefixInformation.{PrefixInformation}
 use Rattle.neighbor.specs.CacheCalls.{key, lookup_by}
 use Rattle.neighbor.specs.NeighborRules.{same_key, find, before, insert_state, on_iface}
-use Rattle.neighbor.specs.declared.Answer.TheVariants.{Refused as NotAsked, Found, Pending, NotFound}
+use Rattle.neighbor.specs.declared.Answer.TheVariants.{Found, Pending, NotFound}
 use Rattle.neighbor.specs.declared.Answer.{Answer as Known}
 use Rattle.neighbor.specs.declared.NeighborCache.{NeighborCache}
 use Rattle.slaac.specs.DiscoveryRules.{due as turnDue, sent as turnSent, solicitation}
@@ -58,10 +58,6 @@ use Rattle.time.specs.declared.Instant.{Instant}
 use Rattle.wire.specs.Refusals.{time_check, key_check, decided}
 use Rattle.wire.specs.Rfc2464.{formed_of}
 use Rattle.wire.specs.Rfc4291.{is_link_local}
-use Rattle.wire.specs.declared.error.Check.TheVariants.{Fine, Refused as Fails}
-use Rattle.wire.specs.declared.error.Check.{Check}
-use Rattle.wire.specs.declared.error.Outcome.TheVariants.{Refused as NotDone, Done}
-use Rattle.wire.specs.declared.error.Outcome.{Outcome}
 use Rattle.wire.specs.declared.ethernet.HardwareAddress.{HardwareAddress}
 use Rattle.wire.specs.declared.ipv6.Formed.TheVariants.{Addr}
 use Rattle.wire.specs.declared.ipv6.Ipv6Addr.{Ipv6Addr}
@@ -75,7 +71,7 @@ WidePrefix p = is_link_local p.cidr.address ≡ false
 
 -- The first link-local address of a list
 
-first_same : (test : IfaceAddr → Bool) (f : IfaceAddr → List IfaceAddr) (new : List IfaceAddr) → first_local new ≡ NoSource
+first_same : (test : IfaceAddr → Bool) (f : IfaceAddr → List IfaceAddr) (new : List IfaceAddr) → first_local new ≡ None
     → ((x : IfaceAddr) (rest : List IfaceAddr) → Wide x → first_local (f x ++ rest) ≡ first_local (x ∷ rest)) → (es : List IfaceAddr) → All Wide es
     → first_local (at_first_is test f new es) ≡ first_local es
 unfolding first_local
@@ -84,14 +80,14 @@ first_same test f new n g (x ∷ es) h = go (test x) (first_same test f new n g 
   where
     go : (b : Bool) → first_local (at_first_is test f new es) ≡ first_local es → first_local (cond b (f x ++ es) (x ∷ at_first_is test f new es)) ≡ first_local (x ∷ es)
     go true ih = g x es h.0
-    go false ih = ap (λ (y : Source). cond (is_local x) (source_of x) y) ih
+    go false ih = ap (λ (y : Option Ipv6Addr). cond (is_local x) (source_of x) y) ih
 
 module _ (c : Ipv6Cidr) (p : Preferred) (wide : is_link_local c.address ≡ false) where
   put_same : (es : List IfaceAddr) → All Wide es → first_local (put_addr c p es) ≡ first_local es
   unfolding put_addr first_local
   put_same es h = first_same (is_addr c) (refreshed p) (if_room 8 es (slaac_addr c p)) (new (ltb (length es) 8)) (λ x rest w. again x rest (is_from_slaac x)) es h
     where
-      new : (b : Bool) → first_local (cond b (slaac_addr c p ∷ []) []) ≡ NoSource
+      new : (b : Bool) → first_local (cond b (slaac_addr c p ∷ []) []) ≡ None
       new true = rw wide
       new false = refl
 
@@ -134,19 +130,19 @@ kept_same (x ∷ es) h = go (is_from_slaac x) refl (kept_same es h.1)
     go : (b : Bool) → is_from_slaac x ≡ b → first_local (kept is_from_slaac es) ≡ first_local es
         → first_local (cond b (kept is_from_slaac es) (x ∷ kept is_from_slaac es)) ≡ first_local (x ∷ es)
     go true q ih = rw (h.0 q) ih
-    go false q ih = ap (λ (y : Source). cond (is_local x) (source_of x) y) ih
+    go false q ih = ap (λ (y : Option Ipv6Addr). cond (is_local x) (source_of x) y) ih
 
 -- one more at the end, where there is a source
-more_same : (a : Ipv6Addr) (e : IfaceAddr) (es : List IfaceAddr) → first_local es ≡ From a → first_local (es ++ (e ∷ [])) ≡ From a
+more_same : (a : Ipv6Addr) (e : IfaceAddr) (es : List IfaceAddr) → first_local es ≡ Some a → first_local (es ++ (e ∷ [])) ≡ Some a
 unfolding first_local
 more_same a e [] h = absurd (no_source h)
   where
-    no_source : NoSource ≡ From a → ⊥
+    no_source : None ≡ Some a → ⊥
     no_source q = let z : ◌≡◌ {A = ℕ} 0 1 = cc in omega arith
 more_same a e (x ∷ es) h = go (is_local x) h (more_same a e es)
   where
-    go : (b : Bool) → cond b (source_of x) (first_local es) ≡ From a → (first_local es ≡ From a → first_local (es ++ (e ∷ [])) ≡ From a)
-        → cond b (source_of x) (first_local (es ++ (e ∷ []))) ≡ From a
+    go : (b : Bool) → cond b (source_of x) (first_local es) ≡ Some a → (first_local es ≡ Some a → first_local (es ++ (e ∷ [])) ≡ Some a)
+        → cond b (source_of x) (first_local (es ++ (e ∷ []))) ≡ Some a
     go true q f = q
     go false q f = f q
 
@@ -161,7 +157,7 @@ ends_wide now o z w x e = (subst (λ (y : Ipv6Cidr). is_link_local y.address ≡
 
 -- What the calls keep: of the source, what holds of it
 
-module _ (Q : Source → Type 0) where
+module _ (Q : Option Ipv6Addr → Type 0) where
   record Good (s : Slaac) (t : IfaceAddrs) : Type 0 where
     prefixes : All WidePrefix (prefixes_of s)
     addresses : All Wide (addrs_of t)
@@ -188,9 +184,9 @@ module _ (Q : Source → Type 0) where
       learned_all WidePrefix ends_wide s source msg now h
       (all_of (λ o. is_skipped o ≡ false → WidePrefix (prefix_of o now)) (λ o e. (unskipped o e).1) (prefix_options (options_in msg)))
 
-  added : (x : Check) (s : Slaac) (t : IfaceAddrs) (c : Ipv6Cidr) → Q (first_local (addrs_of t ++ (manual_addr c ∷ []))) → Good s t → Good s (add_addr_by x t c).addrs
-  added (Fails why) s t c q g = g
-  added Fine s t c q g =
+  added : (x : Result (Unit {0}) Refusal) (s : Slaac) (t : IfaceAddrs) (c : Ipv6Cidr) → Q (first_local (addrs_of t ++ (manual_addr c ∷ []))) → Good s t → Good s (add_addr_by x t c).addrs
+  added (Err why) s t c q g = g
+  added (Ok tt) s t c q g =
       record {
         prefixes = g.prefixes;
         addresses = all_with Wide t.slots (addrs_of t ++ (manual_addr c ∷ [])) (all_append Wide (addrs_of t) (manual_addr c ∷ []) g.addresses ((λ e. absurd (true≢false (sym e))), tt));
@@ -225,7 +221,7 @@ module _ (Q : Source → Type 0) where
 
 -- any source, one that is as it was, and one that there is
 
-abbrev Any : Source → Type 0
+abbrev Any : Option Ipv6Addr → Type 0
 Any s = Unit {0}
 
 abbrev Anything : HostCall → Type 0
@@ -234,17 +230,17 @@ Anything c = Unit {0}
 abbrev NotAdding : HostCall → Type 0
 NotAdding c = c ≡ add_addr → ⊥
 
-from : (x : Host) → NoneLocal x → (Q : Source → Type 0) → Q (source_in x) → Good Q x.slaac x.addrs
+from : (x : Host) → NoneLocal x → (Q : Option Ipv6Addr → Type 0) → Q (source_in x) → Good Q x.slaac x.addrs
 from x h Q q = record { prefixes = h.prefixes; addresses = h.addresses; source = q }
 
 any_call : (i : ℕ) (hw : HardwareAddress) → Keeps i hw Anything (λ s t r. Good Any s t)
 any_call i hw = good Any i hw Anything (λ t c ok q. tt)
 
-no_adding : (a : Source) (i : ℕ) (hw : HardwareAddress) → Keeps i hw NotAdding (λ s t r. Good (λ y. y ≡ a) s t)
+no_adding : (a : Option Ipv6Addr) (i : ℕ) (hw : HardwareAddress) → Keeps i hw NotAdding (λ s t r. Good (λ y. y ≡ a) s t)
 no_adding a i hw = good (λ y. y ≡ a) i hw NotAdding (λ t c ok q. absurd (ok refl))
 
-with_source : (a : Ipv6Addr) (i : ℕ) (hw : HardwareAddress) → Keeps i hw Anything (λ s t r. Good (λ y. y ≡ From a) s t)
-with_source a i hw = good (λ y. y ≡ From a) i hw Anything (λ t c ok q. more_same a (manual_addr c) (addrs_of t) q)
+with_source : (a : Ipv6Addr) (i : ℕ) (hw : HardwareAddress) → Keeps i hw Anything (λ s t r. Good (λ y. y ≡ Some a) s t)
+with_source a i hw = good (λ y. y ≡ Some a) i hw Anything (λ t c ok q. more_same a (manual_addr c) (addrs_of t) q)
 
 none : (x : Host) → Good Any x.slaac x.addrs → NoneLocal x
 none x g = record { prefixes = g.prefixes; addresses = g.addresses }
@@ -264,12 +260,12 @@ same_ever : (i : ℕ) (hw : HardwareAddress) (x y : Host) (cs : List HostCall) �
 same_ever i hw x y cs s h ok =
     (keep_run NotAdding (λ s t r. Good (λ z. z ≡ source_in x) s t) (no_adding (source_in x) i hw) s ok (from x h (λ z. z ≡ source_in x) refl)).source
 
-stays : (i : ℕ) (hw : HardwareAddress) (x y : Host) (c : HostCall) → Step i hw x c y → NoneLocal x → (a : Ipv6Addr) → source_in x ≡ From a → source_in y ≡ From a
-stays i hw x y c s h a q = (keep_step Anything (λ s t r. Good (λ z. z ≡ From a) s t) (with_source a i hw) s tt (from x h (λ z. z ≡ From a) q)).source
+stays : (i : ℕ) (hw : HardwareAddress) (x y : Host) (c : HostCall) → Step i hw x c y → NoneLocal x → (a : Ipv6Addr) → source_in x ≡ Some a → source_in y ≡ Some a
+stays i hw x y c s h a q = (keep_step Anything (λ s t r. Good (λ z. z ≡ Some a) s t) (with_source a i hw) s tt (from x h (λ z. z ≡ Some a) q)).source
 
-stays_ever : (i : ℕ) (hw : HardwareAddress) (x y : Host) (cs : List HostCall) → Run i hw x cs y → NoneLocal x → (a : Ipv6Addr) → source_in x ≡ From a → source_in y ≡ From a
+stays_ever : (i : ℕ) (hw : HardwareAddress) (x y : Host) (cs : List HostCall) → Run i hw x cs y → NoneLocal x → (a : Ipv6Addr) → source_in x ≡ Some a → source_in y ≡ Some a
 stays_ever i hw x y cs s h a q =
-    (keep_run Anything (λ s t r. Good (λ z. z ≡ From a) s t) (with_source a i hw) s (all_of Anything (λ c. tt) cs) (from x h (λ z. z ≡ From a) q)).source
+    (keep_run Anything (λ s t r. Good (λ z. z ≡ Some a) s t) (with_source a i hw) s (all_of Anything (λ c. tt) cs) (from x h (λ z. z ≡ Some a) q)).source
 
 -- A poll
 
@@ -287,15 +283,15 @@ module _ {i : ℕ} {up : Bool} {hw : HardwareAddress} where
 -- A card
 
 module _ (x : Card) (up : Bool) (hw : HardwareAddress) (buf : List ℕ) (now : Instant) (r : Settled) (buf' : List ℕ) (h : SettledTo x up hw buf now r buf') (n : NoneLocal (host_of x)) where
-  step : time_check now 0 ≡ Fine → Step 0 hw (host_of x) (poll now) (host_of (settled_after x (poll_of x up hw buf now)).card)
+  step : time_check now 0 ≡ Ok tt → Step 0 hw (host_of x) (poll now) (host_of (settled_after x (poll_of x up hw buf now)).card)
   step ok = polled_at (host_of x) up buf buf' (idle now) (poll_of x up hw buf now) (h.polls ok)
 
   -- of a time that is refused the card is as it was
-  settles_by : (check : Check) → time_check now 0 ≡ check
+  settles_by : (check : Result (Unit {0}) Refusal) → time_check now 0 ≡ check
       → NoneLocal (host_of (decided check (not_settled x) (settled_after x (poll_of x up hw buf now))).card)
       × (source_in (host_of (decided check (not_settled x) (settled_after x (poll_of x up hw buf now))).card) ≡ source_in (host_of x))
-  settles_by (Fails why) e = (n, refl)
-  settles_by Fine e = (
+  settles_by (Err why) e = (n, refl)
+  settles_by (Ok tt) e = (
     none_comes 0 hw (host_of x) (host_of (settled_after x (poll_of x up hw buf now)).card) (poll now) (step e) n,
     same 0 hw (host_of x) (host_of (settled_after x (poll_of x up hw buf now)).card) (poll now) (step e) n (a_poll now),
   )
@@ -316,36 +312,36 @@ module _ (x : Card) (n : NoneLocal (host_of x)) where
   start : Good Any x.slaac x.addrs
   start = from (host_of x) n Any tt
 
-  sends : (w : Known) (addr : Ipv6Addr) (handle : ℕ) → Leaves x (sent_by w x addr handle)
-  sends (NotAsked why) addr handle = (n, refl)
-  sends (Found hw) addr handle = (n, refl)
-  sends Pending addr handle = (record { prefixes = n.prefixes; addresses = n.addresses }, refl)
-  sends NotFound addr handle = (record { prefixes = n.prefixes; addresses = n.addresses }, refl)
+  sends : (w : Result Known Refusal) (addr : Ipv6Addr) (handle : ℕ) → Leaves x (sent_by w x addr handle)
+  sends (Err why) addr handle = (n, refl)
+  sends (Ok (Found hw)) addr handle = (n, refl)
+  sends (Ok Pending) addr handle = (record { prefixes = n.prefixes; addresses = n.addresses }, refl)
+  sends (Ok NotFound) addr handle = (record { prefixes = n.prefixes; addresses = n.addresses }, refl)
 
-  fills : (o : Outcome) (addr : Ipv6Addr) (hw : HardwareAddress) (c : NeighborCache) → Leaves x (filled_by o x addr hw c)
-  fills (NotDone why) addr hw c = (n, refl)
-  fills Done addr hw c = (record { prefixes = n.prefixes; addresses = n.addresses }, refl)
+  fills : (o : Result (Unit {0}) Refusal) (addr : Ipv6Addr) (hw : HardwareAddress) (c : NeighborCache) → Leaves x (filled_by o x addr hw c)
+  fills (Err why) addr hw c = (n, refl)
+  fills (Ok tt) addr hw c = (record { prefixes = n.prefixes; addresses = n.addresses }, refl)
 
-  learns : (w : Known) (addr : Ipv6Addr) (hw : HardwareAddress) (now : Instant) → Leaves x (learned_by w x addr hw now)
+  learns : (w : Result Known Refusal) (addr : Ipv6Addr) (hw : HardwareAddress) (now : Instant) → Leaves x (learned_by w x addr hw now)
   unfolding filled fill_of
-  learns (NotAsked why) addr hw now = (n, refl)
-  learns NotFound addr hw now = (n, refl)
-  learns Pending addr hw now = fills (fill_of x addr hw now).outcome addr hw (fill_of x addr hw now).cache
-  learns (Found old) addr hw now = fills (fill_of x addr hw now).outcome addr hw (fill_of x addr hw now).cache
+  learns (Err why) addr hw now = (n, refl)
+  learns (Ok NotFound) addr hw now = (n, refl)
+  learns (Ok Pending) addr hw now = fills (fill_of x addr hw now).outcome addr hw (fill_of x addr hw now).cache
+  learns (Ok (Found old)) addr hw now = fills (fill_of x addr hw now).outcome addr hw (fill_of x addr hw now).cache
 
-  hears : (w : Known) (r : Advertised) (source : Ipv6Addr) → NoneLocal (host_with r.slaac x.addrs x.routes)
+  hears : (w : Result Known Refusal) (r : Advertised) (source : Ipv6Addr) → NoneLocal (host_with r.slaac x.addrs x.routes)
       → Leaves x (heard_by w (card_with x r.slaac r.cache x.queue) source r.answer)
-  hears (NotAsked why) r source g = (record { prefixes = g.prefixes; addresses = g.addresses }, refl)
-  hears (Found hw) r source g = (record { prefixes = g.prefixes; addresses = g.addresses }, refl)
-  hears Pending r source g = (record { prefixes = g.prefixes; addresses = g.addresses }, refl)
-  hears NotFound r source g = (record { prefixes = g.prefixes; addresses = g.addresses }, refl)
+  hears (Err why) r source g = (record { prefixes = g.prefixes; addresses = g.addresses }, refl)
+  hears (Ok (Found hw)) r source g = (record { prefixes = g.prefixes; addresses = g.addresses }, refl)
+  hears (Ok Pending) r source g = (record { prefixes = g.prefixes; addresses = g.addresses }, refl)
+  hears (Ok NotFound) r source g = (record { prefixes = g.prefixes; addresses = g.addresses }, refl)
 
   takes_in : (input : Input) (message : List ℕ) (now : Instant) → Leaves x (taken_in x input message now)
   unfolding heard learnedOf sent
   takes_in Timer message now = (n, refl)
   takes_in LinkUp message now = (
     of_slaac _
-        (restart_keeps (λ s t r. Good Any s t) Fine x.slaac x.addrs x.routes
+        (restart_keeps (λ s t r. Good Any s t) (Ok tt) x.slaac x.addrs x.routes
         (λ d. record { prefixes = n.prefixes; addresses = n.addresses; source = tt }) start),
     refl,
   )
@@ -358,9 +354,9 @@ module _ (x : Card) (n : NoneLocal (host_of x)) where
   takes_in (NeighborAdvert addr hw) message now = learns (lookup_by (key_check 0 addr) x.cache (key 0 addr)) addr hw now
   takes_in (Packet addr handle) message now = sends (lookup_by (key_check 0 addr) x.cache (key 0 addr)) addr handle
 
-  takes_by : (check : Check) (input : Input) (message : List ℕ) (now : Instant) → Leaves x (taken_by check x input message now)
-  takes_by (Fails why) input message now = (n, refl)
-  takes_by Fine input message now = takes_in input message now
+  takes_by : (check : Result (Unit {0}) Refusal) (input : Input) (message : List ℕ) (now : Instant) → Leaves x (taken_by check x input message now)
+  takes_by (Err why) input message now = (n, refl)
+  takes_by (Ok tt) input message now = takes_in input message now
 
 none_slaac : (es : List IfaceAddr) → any_of is_from_slaac es ≡ false → All Wide es
 none_slaac [] h = tt
@@ -372,7 +368,7 @@ file_none : NoneLocal end_host
 unfolding formed_of walked options_of checksum_of same_key find before insert_state on_iface put_addr drop_addr first_local put_route drop_route add_prefix expire_prefix process_prefix_is add_router expire_router process_router_is turnDue turnSent solicitation sync_due leave_expired step2 last_source sync_prefix sync_router sync_addrs sync_routes turn_of buffer_of sent_of sync_turn poll_on
 file_none = record { prefixes = (refl, tt); addresses = ((λ e. absurd (true≢false (sym e))), ((λ e. refl), tt)) }
 
-file_source : source_in end_host ≡ From link_local.cidr.address
+file_source : source_in end_host ≡ Some link_local.cidr.address
 unfolding formed_of walked options_of checksum_of same_key find before insert_state on_iface put_addr drop_addr first_local put_route drop_route add_prefix expire_prefix process_prefix_is add_router expire_router process_router_is turnDue turnSent solicitation sync_due leave_expired step2 last_source sync_prefix sync_router sync_addrs sync_routes turn_of buffer_of sent_of sync_turn poll_on
 file_source = refl
 

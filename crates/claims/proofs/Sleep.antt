@@ -7,7 +7,9 @@ use mathlib.Core.List.{List, [], ◌∷◌, ◌++◌, map}
 use mathlib.Core.Logic.{inl}
 use mathlib.Core.Path.{◌≡◌, refl, sym, ap, ◌∙◌, subst}
 use native.Mathlib.Omega.{arith}
-use Rattle.claims.proofs.Caches.{listed_events}
+use Rattle.std.specs.Prelude.{Result, Ok, Err, Option, Some, None}
+use Rattle.wire.specs.declared.error.Refusal.{Refusal}
+use Rattle.sweep.proofs.SweepLaws.{listed_events}
 use Rattle.claims.proofs.Clocks.{clocks}
 use Rattle.claims.proofs.Lists.{twice_slots, twice_count, all_append}
 use Rattle.claims.proofs.Wake.{wake}
@@ -21,8 +23,6 @@ use Rattle.claims.specs.WakePoll.{quietly, slaac_times}
 use Rattle.autoconf.specs.declared.AdvertAnswer.{AdvertAnswer}
 use Rattle.autoconf.specs.declared.AdvertAnswer.TheVariants.{Off as IsOff}
 use Rattle.autoconf.specs.declared.Advertised.{Advertised}
-use Rattle.autoconf.specs.declared.LinkLayerAddr.{LinkLayerAddr}
-use Rattle.autoconf.specs.declared.LinkLayerAddr.TheVariants.{Nothing, Is}
 use Rattle.autoconf.specs.declared.PollAnswer.TheVariants.{Off, Quiet}
 use Rattle.autoconf.specs.declared.Polled.{Polled}
 use Rattle.autoconf.specs.declared.PolledAt.{PolledAt}
@@ -42,7 +42,7 @@ use Rattle.neighbor.proofs.Distinct.{entries_of_lem}
 use Rattle.neighbor.specs.CacheCalls.{entries, key, lookup_by, put_in, change_by}
 use Rattle.neighbor.specs.NeighborRules.{Table, entry, lasting, find, victim, insert_state}
 use Rattle.neighbor.specs.declared.Answer.{Answer as Known}
-use Rattle.neighbor.specs.declared.Answer.TheVariants.{Refused as NotAsked, Found, Pending, NotFound}
+use Rattle.neighbor.specs.declared.Answer.TheVariants.{Found, Pending, NotFound}
 use Rattle.neighbor.specs.declared.Entry.{Entry}
 use Rattle.neighbor.specs.declared.State.{State}
 use Rattle.neighbor.specs.declared.State.TheVariants.{Started}
@@ -60,14 +60,9 @@ use Rattle.table.proofs.Kept.{dropped_again}
 use Rattle.table.specs.Table.{fold_over, kept, dropped}
 use Rattle.time.specs.ClockRules.{idle}
 use Rattle.time.specs.declared.Clock.{Clock}
-use Rattle.time.specs.declared.Deadline.{Deadline}
 use Rattle.time.specs.declared.Instant.{Instant}
 use Rattle.wire.specs.Refusals.{time_check, key_check, fill_check, decided}
 use Rattle.wire.specs.Rfc2464.{is_unicast_hardware}
-use Rattle.wire.specs.declared.error.Check.{Check}
-use Rattle.wire.specs.declared.error.Check.TheVariants.{Fine, Refused as Fails}
-use Rattle.wire.specs.declared.error.Outcome.{Outcome}
-use Rattle.wire.specs.declared.error.Outcome.TheVariants.{Refused as NotDone, Done}
 use Rattle.wire.specs.declared.ethernet.HardwareAddress.{HardwareAddress}
 use Rattle.wire.specs.declared.ipv6.Ipv6Addr.{Ipv6Addr}
 
@@ -86,15 +81,15 @@ module _ (q : PendingQueue) (goes : PendingPacket → Bool) where
 
 -- ---- sweeps
 
-events_listed : (x : Check) (c : NeighborCache) (k : Clock) (i : ℕ) → (sweep_by x c k i).events ≡ events_table (event_list (sweep_by x c k i).events)
-events_listed (Fails why) c k i = ap events_table (sym (listed_events []))
-events_listed Fine c k i =
+events_listed : (x : Result (Unit {0}) Refusal) (c : NeighborCache) (k : Clock) (i : ℕ) → (sweep_by x c k i).events ≡ events_table (event_list (sweep_by x c k i).events)
+events_listed (Err why) c k i = ap events_table (sym (listed_events []))
+events_listed (Ok tt) c k i =
     sweep_events c k i
     ∙ ap events_table (sym (listed_events (sweep_table i k.now (entries c)).events) ∙ ap event_list (sym (sweep_events c k i)))
 
-sweep_ifaces : (x : Check) (c : NeighborCache) (k : Clock) (i : ℕ) → All (λ e. e.iface ≡ 0) (entries c) → All (λ e. e.iface ≡ 0) (entries (sweep_by x c k i).cache)
-sweep_ifaces (Fails why) c k i h = h
-sweep_ifaces Fine c k i h =
+sweep_ifaces : (x : Result (Unit {0}) Refusal) (c : NeighborCache) (k : Clock) (i : ℕ) → All (λ e. e.iface ≡ 0) (entries c) → All (λ e. e.iface ≡ 0) (entries (sweep_by x c k i).cache)
+sweep_ifaces (Err why) c k i h = h
+sweep_ifaces (Ok tt) c k i h =
     subst (All (λ e. e.iface ≡ 0)) (sym (sweep_entries c k i)) (same_ifaces (λ n. n ≡ 0) i k.now (entries c) h)
 
 -- ---- every neighbour is on interface 0
@@ -116,55 +111,55 @@ put_one c addr st h = subst On0 (sym (entries_of_lem c (insert_state (key 0 addr
     go false true = all_append (λ (f : Entry). f.iface ≡ 0) (entries c) (entry (key 0 addr) st ∷ []) h (refl, tt)
     go false false = all_set (entries c) (victim (entries c)) (entry (key 0 addr) st) h refl
 
-change_one : (x : Check) (c : NeighborCache) (addr : Ipv6Addr) (st : State) → On0 (entries c) → On0 (entries (change_by x c (put_in c (key 0 addr) st)).cache)
-change_one (Fails why) c addr st h = h
-change_one Fine c addr st h = put_one c addr st h
+change_one : (x : Result (Unit {0}) Refusal) (c : NeighborCache) (addr : Ipv6Addr) (st : State) → On0 (entries c) → On0 (entries (change_by x c (put_in c (key 0 addr) st)).cache)
+change_one (Err why) c addr st h = h
+change_one (Ok tt) c addr st h = put_one c addr st h
 
-hear_one : (x : Check) (s : Slaac) (c : NeighborCache) (source : Ipv6Addr) (message : List ℕ) (now : Instant) → On0 (entries c) → On0 (entries (call_by x s c 0 source message now).cache)
-hear_one (Fails why) s c source message now h = h
-hear_one Fine s c source message now h = go s.on
+hear_one : (x : Result (Unit {0}) Refusal) (s : Slaac) (c : NeighborCache) (source : Ipv6Addr) (message : List ℕ) (now : Instant) → On0 (entries c) → On0 (entries (call_by x s c 0 source message now).cache)
+hear_one (Err why) s c source message now h = h
+hear_one (Ok tt) s c source message now h = go s.on
   where
-    step : (l : LinkLayerAddr) → On0 (entries (step5 c 0 source l now))
-    step Nothing = h
-    step (Is hw) = unicast (is_unicast_hardware hw)
+    step : (l : Option HardwareAddress) → On0 (entries (step5 c 0 source l now))
+    step None = h
+    step (Some hw) = unicast (is_unicast_hardware hw)
       where
         unicast : (b : Bool) → On0 (entries (cond b (filled_by c 0 source hw now) c))
         unicast true = put_one c source (lasting hw now) h
         unicast false = h
 
-    msg : (m : Check) → On0 (entries (message_by m s c 0 source message now).cache)
-    msg (Fails why) = h
-    msg Fine = step (last_source (options_in message))
+    msg : (m : Result (Unit {0}) Refusal) → On0 (entries (message_by m s c 0 source message now).cache)
+    msg (Err why) = h
+    msg (Ok tt) = step (last_source (options_in message))
 
-    go : (b : Bool) → On0 (entries (cond b (message_by (message_check source message) s c 0 source message now) (advertised s c IsOff)).cache)
+    go : (b : Bool) → On0 (entries (cond b (message_by (message_check source message) s c 0 source message now) (advertised s c (Ok IsOff))).cache)
     go true = msg (message_check source message)
     go false = h
 
-send_one : (k : Known) (x : Card) (addr : Ipv6Addr) (handle : ℕ) → OnOne x → OnOne (sent_by k x addr handle).card
+send_one : (k : Result Known Refusal) (x : Card) (addr : Ipv6Addr) (handle : ℕ) → OnOne x → OnOne (sent_by k x addr handle).card
 unfolding start_of
-send_one (NotAsked why) x addr handle h = h
-send_one (Found hw) x addr handle h = h
-send_one Pending x addr handle h = h
-send_one NotFound x addr handle h = change_one (key_check 0 addr) x.cache addr Started h
+send_one (Err why) x addr handle h = h
+send_one (Ok (Found hw)) x addr handle h = h
+send_one (Ok Pending) x addr handle h = h
+send_one (Ok NotFound) x addr handle h = change_one (key_check 0 addr) x.cache addr Started h
 
-fill_one : (o : Outcome) (x : Card) (addr : Ipv6Addr) (hw : HardwareAddress) (c : NeighborCache) → OnOne x → On0 (entries c) → OnOne (answered_by o x addr hw c).card
-fill_one (NotDone why) x addr hw c h g = h
-fill_one Done x addr hw c h g = g
+fill_one : (o : Result (Unit {0}) Refusal) (x : Card) (addr : Ipv6Addr) (hw : HardwareAddress) (c : NeighborCache) → OnOne x → On0 (entries c) → OnOne (answered_by o x addr hw c).card
+fill_one (Err why) x addr hw c h g = h
+fill_one (Ok tt) x addr hw c h g = g
 
-learn_one : (k : Known) (x : Card) (addr : Ipv6Addr) (hw : HardwareAddress) (now : Instant) → OnOne x → OnOne (learned_by k x addr hw now).card
+learn_one : (k : Result Known Refusal) (x : Card) (addr : Ipv6Addr) (hw : HardwareAddress) (now : Instant) → OnOne x → OnOne (learned_by k x addr hw now).card
 unfolding answered fill_of
-learn_one (NotAsked why) x addr hw now h = h
-learn_one NotFound x addr hw now h = h
-learn_one Pending x addr hw now h =
+learn_one (Err why) x addr hw now h = h
+learn_one (Ok NotFound) x addr hw now h = h
+learn_one (Ok Pending) x addr hw now h =
     fill_one (fill_of x addr hw now).outcome x addr hw (fill_of x addr hw now).cache h (change_one (fill_check now 0 addr hw) x.cache addr (lasting hw now) h)
-learn_one (Found old) x addr hw now h =
+learn_one (Ok (Found old)) x addr hw now h =
     fill_one (fill_of x addr hw now).outcome x addr hw (fill_of x addr hw now).cache h (change_one (fill_check now 0 addr hw) x.cache addr (lasting hw now) h)
 
-known_one : (k : Known) (x : Card) (source : Ipv6Addr) (answer : AdvertAnswer) → OnOne x → OnOne (heard_by k x source answer).card
-known_one (NotAsked why) x source answer h = h
-known_one (Found hw) x source answer h = h
-known_one Pending x source answer h = h
-known_one NotFound x source answer h = h
+known_one : (k : Result Known Refusal) (x : Card) (source : Ipv6Addr) (answer : Result AdvertAnswer Refusal) → OnOne x → OnOne (heard_by k x source answer).card
+known_one (Err why) x source answer h = h
+known_one (Ok (Found hw)) x source answer h = h
+known_one (Ok Pending) x source answer h = h
+known_one (Ok NotFound) x source answer h = h
 
 input_one : (x : Card) (input : Input) (message : List ℕ) (now : Instant) → OnOne x → OnOne (taken_in x input message now).card
 unfolding heard learned sent
@@ -177,17 +172,17 @@ input_one x (RouterAdvert source) message now h =
 input_one x (NeighborAdvert addr hw) message now h = learn_one (lookup_by (key_check 0 addr) x.cache (key 0 addr)) x addr hw now h
 input_one x (Packet addr handle) message now h = send_one (lookup_by (key_check 0 addr) x.cache (key 0 addr)) x addr handle h
 
-take_one : (check : Check) (x : Card) (input : Input) (message : List ℕ) (now : Instant) → OnOne x → OnOne (taken_by check x input message now).card
-take_one (Fails why) x input message now h = h
-take_one Fine x input message now h = input_one x input message now h
+take_one : (check : Result (Unit {0}) Refusal) (x : Card) (input : Input) (message : List ℕ) (now : Instant) → OnOne x → OnOne (taken_by check x input message now).card
+take_one (Err why) x input message now h = h
+take_one (Ok tt) x input message now h = input_one x input message now h
 
 -- ---- the poll with SLAAC off
 
-off_poll : (x : Check) (s : Slaac) (t : IfaceAddrs) (r : Routes) (up : Bool) (hw : HardwareAddress) (buf : List ℕ) (k : Clock) → x ≡ Fine → s.on ≡ false
-    → poll_by x s t r 0 up hw buf k ≡ polled s t r k Off
+off_poll : (x : Result (Unit {0}) Refusal) (s : Slaac) (t : IfaceAddrs) (r : Routes) (up : Bool) (hw : HardwareAddress) (buf : List ℕ) (k : Clock) → x ≡ Ok tt → s.on ≡ false
+    → poll_by x s t r 0 up hw buf k ≡ polled s t r k (Ok Off)
 off_poll x s t r up hw buf k e off = rw (e, off) refl
 
-off_buffer : (x : Check) (s : Slaac) (t : IfaceAddrs) (up : Bool) (hw : HardwareAddress) (buf : List ℕ) (k : Clock) → x ≡ Fine → s.on ≡ false
+off_buffer : (x : Result (Unit {0}) Refusal) (s : Slaac) (t : IfaceAddrs) (up : Bool) (hw : HardwareAddress) (buf : List ℕ) (k : Clock) → x ≡ Ok tt → s.on ≡ false
     → poll_buffer x s t up hw buf k ≡ buf
 off_buffer x s t up hw buf k e off = rw (e, off) refl
 
@@ -202,22 +197,22 @@ own_after x p own =
     sweep_ifaces (time_check (first_sweep x p).clock.now 0) (first_sweep x p).cache (first_sweep x p).clock 0
     (sweep_ifaces (time_check p.clock.now 0) x.cache p.clock 0 own)
 
-settle_one : (check : Check) (x : Card) (p : PolledAt) → OnOne x → OnOne (decided check (not_settled x) (settled_after x p)).card
-settle_one (Fails why) x p own = own
-settle_one Fine x p own = own_after x p own
+settle_one : (check : Result (Unit {0}) Refusal) (x : Card) (p : PolledAt) → OnOne x → OnOne (decided check (not_settled x) (settled_after x p)).card
+settle_one (Err why) x p own = own
+settle_one (Ok tt) x p own = own_after x p own
 
 module _ (x : Card) (up : Bool) (hw : HardwareAddress) (buf : List ℕ) (now : Instant) (r : Settled) (buf' : List ℕ) (h : SettledTo x up hw buf now r buf') where
   settled_one : OnOne x → OnOne r.card
   unfolding settled
   settled_one own = subst (λ (q : Settled). OnOne q.card) (sym h.is) (settle_one (time_check now 0) x (poll_of x up hw buf now) own)
 
-module _ (x : Card) (up : Bool) (hw : HardwareAddress) (buf : List ℕ) (now : Instant) (r : Settled) (buf' : List ℕ) (h : SettledTo x up hw buf now r buf') (ok : time_check now 0 ≡ Fine) where
+module _ (x : Card) (up : Bool) (hw : HardwareAddress) (buf : List ℕ) (now : Instant) (r : Settled) (buf' : List ℕ) (h : SettledTo x up hw buf now r buf') (ok : time_check now 0 ≡ Ok tt) where
   abbrev poll : PolledAt
   poll = poll_of x up hw buf now
 
   is_after : r ≡ settled_after x (poll_of x up hw buf now)
   unfolding settled
-  is_after = h.is ∙ ap (λ (check : Check). decided check (not_settled x) (settled_after x (poll_of x up hw buf now))) ok
+  is_after = h.is ∙ ap (λ (check : Result (Unit {0}) Refusal). decided check (not_settled x) (settled_after x (poll_of x up hw buf now))) ok
 
   polls : Poll 0 up hw x.slaac x.addrs x.routes buf (idle now) poll.polled buf' poll.clock
   polls = polled_at x.slaac x.addrs x.routes buf (idle now) poll buf' (h.polls ok)
@@ -242,7 +237,7 @@ module _ (x : Card) (up : Bool) (hw : HardwareAddress) (buf : List ℕ) (now : I
   module _ (own : OnOne x) where
     round : Round x.cache poll.clock (0 ∷ []) 0 (last_sweep x poll).cache (last_sweep x poll).clock
     round =
-        let fine : time_check poll.clock.now 0 ≡ Fine = ap (λ (t : Instant). time_check t 0) poll_now ∙ ok in
+        let fine : time_check poll.clock.now 0 ≡ Ok tt = ap (λ (t : Instant). time_check t 0) poll_now ∙ ok in
         record {
           all = on_one (entries x.cache) own;
           taken = (fine, (fine, tt));
@@ -261,7 +256,7 @@ module _ (x : Card) (up : Bool) (hw : HardwareAddress) (buf : List ℕ) (now : I
         (wake.exact_lent x.cache (last_sweep x poll).cache poll.clock (last_sweep x poll).clock (0 ∷ []) 0 round)
 
     module _ (off : x.slaac.on ≡ false) where
-      poll_off : poll_of x up hw buf now ≡ polled x.slaac x.addrs x.routes (idle now) Off
+      poll_off : poll_of x up hw buf now ≡ polled x.slaac x.addrs x.routes (idle now) (Ok Off)
       unfolding poll_of
       poll_off = off_poll (time_check now 0) x.slaac x.addrs x.routes up hw buf (idle now) ok off
 
@@ -275,10 +270,10 @@ module _ (x : Card) (up : Bool) (hw : HardwareAddress) (buf : List ℕ) (now : I
           (wake.exact_lent x.cache (last_sweep x poll).cache poll.clock (last_sweep x poll).clock (0 ∷ []) 0 round)
 
 -- of a time that is refused there is none to wait for
-later_by : (x : Card) (up : Bool) (hw : HardwareAddress) (buf : List ℕ) (now : Instant) (r : Settled) (buf' : List ℕ) → SettledTo x up hw buf now r buf' → (check : Check)
+later_by : (x : Card) (up : Bool) (hw : HardwareAddress) (buf : List ℕ) (now : Instant) (r : Settled) (buf' : List ℕ) → SettledTo x up hw buf now r buf' → (check : Result (Unit {0}) Refusal)
     → time_check now 0 ≡ check → Asleep (decided check (not_settled x) (settled_after x (poll_of x up hw buf now))).wake now
-later_by x up hw buf now r buf' h (Fails why) e = tt
-later_by x up hw buf now r buf' h Fine e = wakes_later x up hw buf now r buf' h e
+later_by x up hw buf now r buf' h (Err why) e = tt
+later_by x up hw buf now r buf' h (Ok tt) e = wakes_later x up hw buf now r buf' h e
 
 settled_later : (x : Card) (up : Bool) (hw : HardwareAddress) (buf : List ℕ) (now : Instant) (r : Settled) (buf' : List ℕ) → SettledTo x up hw buf now r buf' → Asleep r.wake now
 unfolding settled
@@ -286,9 +281,9 @@ settled_later x up hw buf now r buf' h = subst (λ (q : Settled). Asleep q.wake 
 
 -- ---- the next time, before `wake`
 
-module _ (x : Card) (up : Bool) (hw : HardwareAddress) (buf : List ℕ) (now : Instant) (r : Settled) (buf' : List ℕ) (h : SettledTo x up hw buf now r buf') (ok : time_check now 0 ≡ Fine) (own : OnOne x)
+module _ (x : Card) (up : Bool) (hw : HardwareAddress) (buf : List ℕ) (now : Instant) (r : Settled) (buf' : List ℕ) (h : SettledTo x up hw buf now r buf') (ok : time_check now 0 ≡ Ok tt) (own : OnOne x)
     (up2 : Bool) (hw2 : HardwareAddress) (buf2 : List ℕ) (next : Instant) (r2 : Settled) (buf2' : List ℕ)
-    (h2 : SettledTo (settled_after x (poll_of x up hw buf now)).card up2 hw2 buf2 next r2 buf2') (ok2 : time_check next 0 ≡ Fine)
+    (h2 : SettledTo (settled_after x (poll_of x up hw buf now)).card up2 hw2 buf2 next r2 buf2') (ok2 : time_check next 0 ≡ Ok tt)
     (a : Asleep (last_sweep x (poll_of x up hw buf now)).clock.deadline next) where
   abbrev poll1 : PolledAt
   poll1 = poll_of x up hw buf now
@@ -299,7 +294,7 @@ module _ (x : Card) (up : Bool) (hw : HardwareAddress) (buf : List ℕ) (now : I
   abbrev poll2 : PolledAt
   poll2 = poll_of y up2 hw2 buf2 next
 
-  abbrev wakes : Deadline
+  abbrev wakes : Option Instant
   wakes = (last_sweep x poll1).clock.deadline
 
   first_quiet : (event_list (first_sweep y poll2).events ≡ []) × ((first_sweep y poll2).cache ≡ y.cache)
@@ -359,7 +354,7 @@ module _ (x : Card) (up : Bool) (hw : HardwareAddress) (buf : List ℕ) (now : I
         go : (b : Bool) → y.slaac.on ≡ b → y.slaac.on ≡ true
         go true e = e
         go false e =
-            let o : Off ≡ Quiet =
+            let o : Ok Off ≡ Ok Quiet =
             ap (λ (p : PolledAt). p.polled.answer) (sym (poll_off y up2 hw2 buf2 next r2 buf2' h2 ok2 own2 e)) ∙ ap (λ (p : Polled). p.answer) quiet.0 in
             let z : ◌≡◌ {A = ℕ} 0 1 = cc in
             absurd (omega arith)
@@ -371,7 +366,7 @@ module _ (x : Card) (up : Bool) (hw : HardwareAddress) (buf : List ℕ) (now : I
         (exact_after y up2 hw2 buf2 next r2 buf2' h2 ok2 own2 still_on))
         (exact_after x up hw buf now r buf' h ok own on)
 
-    asleep_on : (r2 ≡ still y Quiet wakes) × (buf2' ≡ buf2)
+    asleep_on : (r2 ≡ still y (Ok Quiet) wakes) × (buf2' ≡ buf2)
     asleep_on = (nothing_new (quietly y.slaac y.addrs y.routes) refl refl refl quiet.0 same_wake, quiet.1)
 
   module _ (off : x.slaac.on ≡ false) where
@@ -385,9 +380,9 @@ module _ (x : Card) (up : Bool) (hw : HardwareAddress) (buf : List ℕ) (now : I
         (exact_after_off y up2 hw2 buf2 next r2 buf2' h2 ok2 own2 still_off))
         (exact_after_off x up hw buf now r buf' h ok own off)
 
-    asleep_off : (r2 ≡ still y Off wakes) × (buf2' ≡ buf2)
+    asleep_off : (r2 ≡ still y (Ok Off) wakes) × (buf2' ≡ buf2)
     asleep_off = (
-      nothing_new (record { slaac = y.slaac; addrs = y.addrs; routes = y.routes; answer = Off }) refl refl refl
+      nothing_new (record { slaac = y.slaac; addrs = y.addrs; routes = y.routes; answer = Ok Off }) refl refl refl
           (ap (λ (p : PolledAt). p.polled) (poll_off y up2 hw2 buf2 next r2 buf2' h2 ok2 own2 still_off)) same_wake_off,
       buffer_off y up2 hw2 buf2 next r2 buf2' h2 ok2 own2 still_off,
     )
@@ -399,7 +394,7 @@ one_more_turn : (received : List ℕ) (hw : HardwareAddress) (b : Between) (earl
 one_more_turn received hw b [] last = refl
 one_more_turn received hw b (w ∷ earlier) last = one_more_turn received hw (turn_in received hw b w) earlier last
 
-module _ (x : Card) (told : Deadline) (inbox : Inbox) (received : List ℕ) (hw : HardwareAddress) (buf : List ℕ) (budget : ℕ) (r : Ran) (buf' : List ℕ) (h : RanTo x told inbox received hw buf budget r buf') where
+module _ (x : Card) (told : Option Instant) (inbox : Inbox) (received : List ℕ) (hw : HardwareAddress) (buf : List ℕ) (budget : ℕ) (r : Ran) (buf' : List ℕ) (h : RanTo x told inbox received hw buf budget r buf') where
   wake_after : (ws : List Woken) → take budget (inputs_of inbox) ≡ ws → r.wake ≡ (turns_over x told received hw buf ws).wake
   unfolding run_over
   wake_after ws e = ap (λ (q : Ran). q.wake) h.is ∙ ap (λ (us : List Woken). (turns_over x told received hw buf us).wake) e
@@ -425,12 +420,12 @@ sleep =
           let e = is_after x up hw buf now r buf' h ok in
           let w = asleep_on x up hw buf now r buf' h ok own up2 hw2 buf2 next r2 buf2' (subst (λ (q : Settled). SettledTo q.card up2 hw2 buf2 next r2 buf2') e h2) ok2
           (subst (λ (q : Settled). Asleep q.wake next) e a) on (subst (λ (q : Settled). sender_in up2 q.card.addrs ≡ sender_in up x.addrs) e same) in
-          (subst (λ (q : Settled). r2 ≡ still q.card Quiet q.wake) (sym e) w.0, w.1);
+          (subst (λ (q : Settled). r2 ≡ still q.card (Ok Quiet) q.wake) (sym e) w.0, w.1);
       asleep_off = λ x up hw buf now r buf' h ok own off up2 hw2 buf2 next r2 buf2' h2 ok2 a.
           let e = is_after x up hw buf now r buf' h ok in
           let w = asleep_off x up hw buf now r buf' h ok own up2 hw2 buf2 next r2 buf2' (subst (λ (q : Settled). SettledTo q.card up2 hw2 buf2 next r2 buf2') e h2) ok2
           (subst (λ (q : Settled). Asleep q.wake next) e a) off in
-          (subst (λ (q : Settled). r2 ≡ still q.card Off q.wake) (sym e) w.0, w.1);
+          (subst (λ (q : Settled). r2 ≡ still q.card (Ok Off) q.wake) (sym e) w.0, w.1);
       run = last_tells;
       no_turn = λ x told inbox received hw buf budget r buf' h e. wake_after x told inbox received hw buf budget r buf' h [] e;
     }

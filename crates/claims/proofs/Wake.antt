@@ -7,8 +7,10 @@ use mathlib.Core.List.{List, [], ◌∷◌, ◌++◌, map}
 use mathlib.Core.Logic.{◌⊎◌, inl, inr}
 use mathlib.Core.Path.{◌≡◌, refl, sym, ap, ◌∙◌, subst}
 use native.Mathlib.Omega.{arith}
+use Rattle.std.specs.Prelude.{Option, Some, None, Result, Ok, Err}
+use Rattle.wire.specs.declared.error.Refusal.{Refusal}
 use Rattle.claims.proofs.Ahead.{sweep_ahead}
-use Rattle.claims.proofs.Caches.{listed_events}
+use Rattle.sweep.proofs.SweepLaws.{listed_events}
 use Rattle.claims.proofs.Clocks.{fine_time, clocks}
 use Rattle.claims.proofs.Lists.{all_append, all_weaken, some_after, some_append, all_member}
 use Rattle.claims.proofs.WakeTable.{settles, keeps, walk_same, left, still, still_all, calm_all, all_covered, before as sooner, Covered, Came, swept_came, same_ifaces, misses_nothing, earliest, none_due_on, Expired, all_expired, expired_same, none_happen}
@@ -34,12 +36,8 @@ use Rattle.time.proofs.Forward.{same, after, unmoved, then}
 use Rattle.time.specs.ClockRules.{idle}
 use Rattle.time.specs.Forward.{NotLater, Forward}
 use Rattle.time.specs.declared.Clock.{Clock}
-use Rattle.time.specs.declared.Deadline.TheVariants.{None, At}
-use Rattle.time.specs.declared.Deadline.{Deadline}
 use Rattle.time.specs.declared.Instant.{Instant}
 use Rattle.wire.specs.Refusals.{time_check}
-use Rattle.wire.specs.declared.error.Check.TheVariants.{Fine, Refused as Fails}
-use Rattle.wire.specs.declared.error.Check.{Check}
 
 -- One sweep that is taken
 
@@ -48,17 +46,17 @@ record Took (c : NeighborCache) (k : Clock) (i : ℕ) (events : List ProbeEvent)
   cache : d ≡ (swept_in c k i).cache
   clock : k' ≡ (swept_in c k i).clock
 
-took : {c d : NeighborCache} {k k' : Clock} {i : ℕ} {events : List ProbeEvent} → Sweep c k i events d k' → time_check k.now i ≡ Fine → Took c k i events d k'
+took : {c d : NeighborCache} {k k' : Clock} {i : ℕ} {events : List ProbeEvent} → Sweep c k i events d k' → time_check k.now i ≡ Ok tt → Took c k i events d k'
 took (swept c k k' i r h) ok =
-    record { tells = ap (λ (q : Reported). event_list q.events) is; cache = ap (λ (q : Reported). q.cache) is; clock = h.clock ∙ ap (λ (x : Check). (sweep_by x c k i).clock) ok }
+    record { tells = ap (λ (q : Reported). event_list q.events) is; cache = ap (λ (q : Reported). q.cache) is; clock = h.clock ∙ ap (λ (x : Result (Unit {0}) Refusal). (sweep_by x c k i).clock) ok }
   where
     is : r ≡ report_of (swept_in c k i)
-    is = h.is ∙ ap (λ (x : Check). report_of (sweep_by x c k i)) ok
+    is = h.is ∙ ap (λ (x : Result (Unit {0}) Refusal). report_of (sweep_by x c k i)) ok
 took (swept_at c k i r h) ok =
     record { tells = ap (λ (q : Swept). event_list q.events) is; cache = ap (λ (q : Swept). q.cache) is; clock = ap (λ (q : Swept). q.clock) is }
   where
     is : r ≡ swept_in c k i
-    is = h.is ∙ ap (λ (x : Check). sweep_by x c k i) ok
+    is = h.is ∙ ap (λ (x : Result (Unit {0}) Refusal). sweep_by x c k i) ok
 
 moves : {c d : NeighborCache} {k k' : Clock} {i : ℕ} {events : List ProbeEvent} → Sweep c k i events d k' → Forward k k'
 moves (swept c k k' i r h) = clocks.sweep c k k' i r h
@@ -67,9 +65,9 @@ moves (swept_at c k i r h) = clocks.sweep_at c k i r h
 -- Sweeps at one time
 
 module _ (now : Instant) (late : now.0 ≤ 2 ^ 62) where
-  module _ {c d : NeighborCache} {k k' : Clock} {i : ℕ} {events : List ProbeEvent} (s : Sweep c k i events d k') (same : k.now ≡ now) (ok : time_check now i ≡ Fine) where
+  module _ {c d : NeighborCache} {k k' : Clock} {i : ℕ} {events : List ProbeEvent} (s : Sweep c k i events d k') (same : k.now ≡ now) (ok : time_check now i ≡ Ok tt) where
     this : Took c k i events d k'
-    this = took s (subst (λ (n : Instant). time_check n i ≡ Fine) (sym same) ok)
+    this = took s (subst (λ (n : Instant). time_check n i ≡ Ok tt) (sym same) ok)
 
     one_table : entries d ≡ (sweep_table i now (entries c)).table
     one_table = ap entries this.cache ∙ sweep_entries c k i ∙ ap (λ (n : Instant). (sweep_table i n (entries c)).table) same
@@ -78,10 +76,7 @@ module _ (now : Instant) (late : now.0 ≤ 2 ^ 62) where
     unfolding swept_in
     one_clock = this.clock
 
-    one_now : k'.now ≡ now
-    one_now = (moves s).now ∙ same
-
-    one_came : (base : Deadline) → Came now base (entries c) k.deadline → Came now base (entries d) k'.deadline
+    one_came : (base : Option Instant) → Came now base (entries c) k.deadline → Came now base (entries d) k'.deadline
     one_came base h =
         subst (λ (t : Table). Came now base t k'.deadline) (sym one_table)
         (subst (λ (m : Clock). Came now base (sweep_table i now (entries c)).table m.deadline) (sym one_clock) (swept_came now late base i k (entries c) same h))
@@ -96,17 +91,17 @@ module _ (now : Instant) (late : now.0 ≤ 2 ^ 62) where
 
   -- what every sweep keeps
   all_keep : (P : Table → Type 0) → ((i : ℕ) (t : Table) → P t → P (sweep_table i now t).table)
-      → {c d : NeighborCache} {k m : Clock} {is : List ℕ} → Sweeps c k is d m → k.now ≡ now → All (λ i. time_check now i ≡ Fine) is → P (entries c) → P (entries d)
+      → {c d : NeighborCache} {k m : Clock} {is : List ℕ} → Sweeps c k is d m → k.now ≡ now → All (λ i. time_check now i ≡ Ok tt) is → P (entries c) → P (entries d)
   all_keep P keep (none c k) same ok h = h
   all_keep P keep (one_more {c = c} {i = i} s r) same ok h =
       all_keep P keep r ((moves s).now ∙ same) ok.1 (subst P (sym (one_table s same ok.0)) (keep i (entries c) h))
 
-  all_came : (base : Deadline) → {c d : NeighborCache} {k m : Clock} {is : List ℕ} → Sweeps c k is d m → k.now ≡ now → All (λ i. time_check now i ≡ Fine) is
+  all_came : (base : Option Instant) → {c d : NeighborCache} {k m : Clock} {is : List ℕ} → Sweeps c k is d m → k.now ≡ now → All (λ i. time_check now i ≡ Ok tt) is
       → Came now base (entries c) k.deadline → Came now base (entries d) m.deadline
   all_came base (none c k) same ok h = h
   all_came base (one_more s r) same ok h = all_came base r ((moves s).now ∙ same) ok.1 (one_came s same ok.0 base h)
 
-  all_settled : {c d : NeighborCache} {k m : Clock} {is : List ℕ} → Sweeps c k is d m → k.now ≡ now → All (λ i. time_check now i ≡ Fine) is
+  all_settled : {c d : NeighborCache} {k m : Clock} {is : List ℕ} → Sweeps c k is d m → k.now ≡ now → All (λ i. time_check now i ≡ Ok tt) is
       → All (λ i. All (NotDueOn i now) (entries d)) is
   all_settled (none c k) same ok = tt
   all_settled (one_more {c = c} {i = i} s r) same ok = (
@@ -205,12 +200,12 @@ sweeps_ahead (one_more {k' = k'} {k'' = k''} s r) a =
     (sweeps_ahead r (subst (λ (n : Instant). Asleep k'.deadline n) (sym (moves s).now) (sweep_ahead s a)))
 
 module _ (now : Instant) (late : now.0 ≤ 2 ^ 62) where
-  still_fit : {c d : NeighborCache} {k m : Clock} {is : List ℕ} → Sweeps c k is d m → k.now ≡ now → All (λ i. time_check now i ≡ Fine) is → Fits c → Fits d
+  still_fit : {c d : NeighborCache} {k m : Clock} {is : List ℕ} → Sweeps c k is d m → k.now ≡ now → All (λ i. time_check now i ≡ Ok tt) is → Fits c → Fits d
   still_fit (none c k) same ok h = h
   still_fit (one_more {c = c} {k = k} {i = i} s r) same ok h =
       still_fit r ((moves s).now ∙ same) ok.1 (subst Fits (sym (this now late s same ok.0).cache) (swept_fits c k i))
 
-  all_fit : {c d : NeighborCache} {k m : Clock} {i : ℕ} {is : List ℕ} → Sweeps c k (i ∷ is) d m → k.now ≡ now → All (λ i. time_check now i ≡ Fine) (i ∷ is)
+  all_fit : {c d : NeighborCache} {k m : Clock} {i : ℕ} {is : List ℕ} → Sweeps c k (i ∷ is) d m → k.now ≡ now → All (λ i. time_check now i ≡ Ok tt) (i ∷ is)
       → Fits d × All (Expired now) (entries d)
   all_fit (one_more {c = c} {k = k} {i = i} s r) same ok = (
     still_fit r ((moves s).now ∙ same) ok.1 (subst Fits (sym (this now late s same ok.0).cache) (swept_fits c k i)),
@@ -220,14 +215,14 @@ module _ (now : Instant) (late : now.0 ≤ 2 ^ 62) where
 
 -- After every interface and one once more
 
-record Rested (base : Deadline) (d : NeighborCache) (m : Clock) : Type 0 where
+record Rested (base : Option Instant) (d : NeighborCache) (m : Clock) : Type 0 where
   covered : All (λ e. Covered m.deadline e.state) (entries d)
   earliest_of : IsEarliest m.deadline (already base ++ times_of (entries d))
   fits : Fits d
 
-module _ (now : Instant) (late : now.0 ≤ 2 ^ 62) {c d : NeighborCache} {k m : Clock} {i : ℕ} {events : List ProbeEvent} (s : Sweep c k i events d m) (same : k.now ≡ now) (ok : time_check now i ≡ Fine) where
+module _ (now : Instant) (late : now.0 ≤ 2 ^ 62) {c d : NeighborCache} {k m : Clock} {i : ℕ} {events : List ProbeEvent} (s : Sweep c k i events d m) (same : k.now ≡ now) (ok : time_check now i ≡ Ok tt) where
   -- a sweep where nothing is due
-  rests : (base : Deadline) → All (NoneDue now) (entries c) → Came now base (entries c) k.deadline → NotLater k.deadline base → Rested base d m
+  rests : (base : Option Instant) → All (NoneDue now) (entries c) → Came now base (entries c) k.deadline → NotLater k.deadline base → Rested base d m
   unfolding expire_clocks
   rests base calm from h =
       record {
@@ -296,10 +291,10 @@ last_same c d k k' i is j h =
     after_one = all_fit k.now (not_late c d k k' (i ∷ is) j h) h.each refl h.taken.1
 
 -- a sweep before the deadline, by its check
-quiet : (x : Check) (base : Deadline) (c : NeighborCache) (m k : Clock) (i : ℕ) → Rested base c m → Asleep m.deadline k.now
+quiet : (x : Result (Unit {0}) Refusal) (base : Option Instant) (c : NeighborCache) (m k : Clock) (i : ℕ) → Rested base c m → Asleep m.deadline k.now
     → (event_list (sweep_by x c k i).events ≡ []) × ((sweep_by x c k i).cache ≡ c)
-quiet (Fails why) base c m k i r a = (listed_events [], refl)
-quiet Fine base c m k i r a = (
+quiet (Err why) base c m k i r a = (listed_events [], refl)
+quiet (Ok tt) base c m k i r a = (
   ap event_list (sweep_events c k i) ∙ listed_events (sweep_table i k.now (entries c)).events
       ∙ ap (λ (v : TableEvents). v.events) (walk_same i k.now (entries c) same calm),
   same_cache c k i r.fits same calm,
@@ -311,7 +306,7 @@ quiet Fine base c m k i r a = (
     calm : All (λ e. due i k.now e ≡ false) (entries c)
     calm = calm_all m.deadline i k.now a (entries c) r.covered
 
-quietly : {c d : NeighborCache} {k k' : Clock} {i : ℕ} {events : List ProbeEvent} (base : Deadline) (m : Clock) → Rested base c m → Asleep m.deadline k.now
+quietly : {c d : NeighborCache} {k k' : Clock} {i : ℕ} {events : List ProbeEvent} (base : Option Instant) (m : Clock) → Rested base c m → Asleep m.deadline k.now
     → Sweep c k i events d k' → (events ≡ []) × (d ≡ c)
 quietly base m r a (swept c k k' i v h) =
     let q = quiet (time_check k.now i) base c m k i r a in
@@ -321,18 +316,18 @@ quietly base m r a (swept_at c k i v h) =
     (ap (λ (x : Swept). event_list x.events) h.is ∙ q.0, ap (λ (x : Swept). x.cache) h.is ∙ q.1)
 
 -- and nothing is due at it
-asleep_calm : (d : Deadline) (next : Instant) → Asleep d next → (t : Table) → All (λ e. Covered d e.state) t → All (NoneDue next) t
+asleep_calm : (d : Option Instant) (next : Instant) → Asleep d next → (t : Table) → All (λ e. Covered d e.state) t → All (NoneDue next) t
 asleep_calm d next a [] h = tt
 asleep_calm d next a (e ∷ t) h = ((still d next e.state h.0 a).1, asleep_calm d next a t h.1)
 
 no_member : (x : Instant) (times : List Instant) → Member x times → times ≡ [] → ⊥
 no_member x times m q = subst (Member x) q m
 
-one_earliest : (d e : Deadline) (times : List Instant) → IsEarliest d times → IsEarliest e times → d ≡ e
+one_earliest : (d e : Option Instant) (times : List Instant) → IsEarliest d times → IsEarliest e times → d ≡ e
 one_earliest None None times h g = refl
-one_earliest None (At e) times h g = absurd (no_member e times g.0 h)
-one_earliest (At d) None times h g = absurd (no_member d times h.0 g)
-one_earliest (At d) (At e) times h g = λ i. At (record { 0 = equal i })
+one_earliest None (Some e) times h g = absurd (no_member e times g.0 h)
+one_earliest (Some d) None times h g = absurd (no_member d times h.0 g)
+one_earliest (Some d) (Some e) times h g = λ i. Some (record { 0 = equal i })
   where
     first : d.0 ≤ e.0
     first = all_member (λ t. d.0 ≤ t.0) e times g.0 h.1
@@ -343,21 +338,21 @@ one_earliest (At d) (At e) times h g = λ i. At (record { 0 = equal i })
     equal : d.0 ≡ e.0
     equal = omega (arith, first, second)
 
-earlier : (d e : Deadline) (now : Instant) → NotLater d e → Asleep d now → Asleep e now
+earlier : (d e : Option Instant) (now : Instant) → NotLater d e → Asleep d now → Asleep e now
 earlier d None now h a = tt
-earlier d (At e) now h a = sooner d e now h a
+earlier d (Some e) now h a = sooner d e now h a
 
-nothing_earlier : (d : Deadline) (those : List Instant) → already d ++ those ≡ [] → (d ≡ None) × (those ≡ [])
+nothing_earlier : (d : Option Instant) (those : List Instant) → already d ++ those ≡ [] → (d ≡ None) × (those ≡ [])
 nothing_earlier None those h = (refl, h)
-nothing_earlier (At t) those h = absurd (omega (arith, ap length h))
+nothing_earlier (Some t) those h = absurd (omega (arith, ap length h))
 
-joined : (d e : Deadline) (these those : List Instant) → IsEarliest d these → IsEarliest e (already d ++ those) → IsEarliest e (these ++ those)
-joined d None these those h g = subst (λ (x : Deadline). IsEarliest x these → these ++ those ≡ []) (sym z.0) (λ q. rw (q, z.1)) h
+joined : (d e : Option Instant) (these those : List Instant) → IsEarliest d these → IsEarliest e (already d ++ those) → IsEarliest e (these ++ those)
+joined d None these those h g = subst (λ (x : Option Instant). IsEarliest x these → these ++ those ≡ []) (sym z.0) (λ q. rw (q, z.1)) h
   where
     z : (d ≡ None) × (those ≡ [])
     z = nothing_earlier d those g
-joined None (At e) these those h g = rw h g
-joined (At d) (At e) these those h g = (
+joined None (Some e) these those h g = rw h g
+joined (Some d) (Some e) these those h g = (
   one_of g.0,
   all_append (λ t. e.0 ≤ t.0) these those (all_weaken (λ t. d.0 ≤ t.0) (λ t. e.0 ≤ t.0) (λ t q. omega (arith, g.1.0)) these h.1) g.1.1,
 )
@@ -369,14 +364,14 @@ joined (At d) (At e) these those h g = (
 -- the cache d, and a sweep of it before the deadline
 exact_asleep : (c d : NeighborCache) (k k' : Clock) (is : List ℕ) (j : ℕ) → Round c k is j d k'
     → (next next' : Clock) (i : ℕ) (events : List ProbeEvent) (e : NeighborCache) → Asleep k'.deadline next.now → Sweep d next i events e next'
-    → time_check next.now i ≡ Fine → IsEarliest next'.deadline (already next.deadline ++ times_of (entries e))
+    → time_check next.now i ≡ Ok tt → IsEarliest next'.deadline (already next.deadline ++ times_of (entries e))
 exact_asleep c d k k' is j h next next' i events e a s ok =
     (rests next.now (fine_time next.now i ok) s refl ok next.deadline
     (asleep_calm k'.deadline next.now a (entries d) (rested c d k k' is j h).covered) (inl refl) (same next.deadline)).earliest_of
 
 same_asleep : (c d : NeighborCache) (now : Instant) (k' : Clock) (is : List ℕ) (j : ℕ) → Round c (idle now) is j d k'
     → (next : Instant) (next' : Clock) (i : ℕ) (events : List ProbeEvent) (e : NeighborCache) → Asleep k'.deadline next → Sweep d (idle next) i events e next'
-    → time_check next i ≡ Fine → next'.deadline ≡ k'.deadline
+    → time_check next i ≡ Ok tt → next'.deadline ≡ k'.deadline
 same_asleep c d now k' is j h next next' i events e a s ok =
     one_earliest next'.deadline k'.deadline (times_of (entries d))
     (subst (λ (x : NeighborCache). IsEarliest next'.deadline (times_of (entries x))) (quietly (idle now).deadline k' (rested c d (idle now) k' is j h) a s).1
@@ -388,7 +383,7 @@ before_round c d k k' is j h next a =
     earlier k'.deadline k.deadline next
     (after k'.deadline h.clock.deadline k.deadline (moves h.last).deadline (all_forward k.now (fine_time k.now j h.taken.0) h.each).deadline) a
 
-none_started : (d : Deadline) (t : Table) → All (λ e. Covered d e.state) t → All (λ e. e.state ≡ Started → ⊥) t
+none_started : (d : Option Instant) (t : Table) → All (λ e. Covered d e.state) t → All (λ e. e.state ≡ Started → ⊥) t
 none_started d [] h = tt
 none_started d (e ∷ t) h = (λ q. subst (Covered d) q h.0, none_started d t h.1)
 

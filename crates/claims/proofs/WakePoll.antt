@@ -7,6 +7,8 @@ use mathlib.Core.List.{List, [], ◌∷◌, ◌++◌, append_assoc}
 use mathlib.Core.Logic.{inl}
 use native.Mathlib.Omega.{arith}
 use mathlib.Core.Path.{◌≡◌, refl, sym, ap, ◌∙◌, subst}
+use Rattle.std.specs.Prelude.{Option, Some, None, Ok}
+use Rattle.wire.specs.declared.ipv6.Ipv6Addr.{Ipv6Addr}
 use Rattle.claims.proofs.Ahead.{poll_ahead}
 use Rattle.claims.proofs.Clocks.{turn_forward, asked_forward, turn_waits as turn-covers, Took, poll_took, clocks}
 use Rattle.claims.proofs.Covers.{Covered, ask, fold_forward, prefix_end, router_end, unasked, asked_prefixes, asked_all, asked_now, prefix_covers, router_covers}
@@ -25,8 +27,6 @@ use Rattle.sweep.specs.SweepRules.{expire_all, expire_clocks, due as dueOn, spen
 use Rattle.iface.specs.AddressRules.{put_addr, drop_addr, first_local}
 use Rattle.iface.specs.RouteRules.{put_route, drop_route}
 use Rattle.iface.specs.declared.addr.IfaceAddrs.{IfaceAddrs}
-use Rattle.iface.specs.declared.addr.Source.TheVariants.{Nothing, From}
-use Rattle.iface.specs.declared.addr.Source.{Source}
 use Rattle.iface.specs.declared.route.Routes.{Routes}
 use Rattle.slaac.proofs.LearnedLaws.{not-false}
 use Rattle.slaac.specs.DiscoveryRules.{due_phase, due, retry_at, sent, solicitation}
@@ -53,8 +53,6 @@ use Rattle.time.specs.ClockRules.{scheduled_of, asked_of, asked_end, is_after}
 use Rattle.time.specs.Forward.{NotLater, Forward}
 use Rattle.time.specs.declared.Answer.{Answer}
 use Rattle.time.specs.declared.Clock.{Clock}
-use Rattle.time.specs.declared.Deadline.TheVariants.{None, At}
-use Rattle.time.specs.declared.Deadline.{Deadline}
 use Rattle.time.specs.declared.Expiry.TheVariants.{At as EndsAt, Forever}
 use Rattle.time.specs.declared.Expiry.{Expiry}
 use Rattle.time.specs.declared.Instant.{Instant}
@@ -62,12 +60,11 @@ use Rattle.ndisc.specs.OptionWalk.{walked, options_of}
 use Rattle.ndisc.specs.Rfc4443Checksum.{checksum_of}
 use Rattle.wire.specs.Refusals.{time_check}
 use Rattle.wire.specs.Rfc2464.{formed_of}
-use Rattle.wire.specs.declared.error.Check.TheVariants.{Fine}
 use Rattle.wire.specs.declared.ethernet.HardwareAddress.{HardwareAddress}
 
 -- One end
 
-asked_no : (d : Deadline) (c : Clock) (e : Expiry) → Covered d e → Asleep d c.now → (asked_end c e).expired ≡ false
+asked_no : (d : Option Instant) (c : Clock) (e : Expiry) → Covered d e → Asleep d c.now → (asked_end c e).expired ≡ false
 asked_no d c (EndsAt t) h a = rw (lt-leb t.0 c.now.0 (before d t c.now h a))
 asked_no d c Forever h a = refl
 
@@ -90,7 +87,7 @@ module _ {A : Type 0} (f : A → Expiry) where
       let o = or_none a.expired (asked_end a.clock (f x)).expired r.0 in
       (o.0, (subst (λ (n : Instant). is_after (f x) n ≡ true) same (no_asked a.clock (f x) o.1), r.1))
 
-  fold_quiet : (d : Deadline) (a : Answer) (xs : List A) → a.expired ≡ false → Asleep d a.clock.now → All (λ x. Covered d (f x)) xs → (fold_over (ask f) a xs).expired ≡ false
+  fold_quiet : (d : Option Instant) (a : Answer) (xs : List A) → a.expired ≡ false → Asleep d a.clock.now → All (λ x. Covered d (f x)) xs → (fold_over (ask f) a xs).expired ≡ false
   fold_quiet d a [] e s h = e
   fold_quiet d a (x ∷ xs) e s h =
       fold_quiet d (ask f a x) xs (rw (e, asked_no d a.clock (f x) h.0 s)) (subst (Asleep d) (sym (asking_end a.clock (f x)).now) s) h.1
@@ -98,12 +95,12 @@ module _ {A : Type 0} (f : A → Expiry) where
 -- The sync
 
 -- SLAAC with no sync asked for, and no end before the deadline
-record Settled (d : Deadline) (s : Slaac) : Type 0 where
+record Settled (d : Option Instant) (s : Slaac) : Type 0 where
   asked : s.sync_required ≡ false
   prefixes : All (λ p. Covered d (prefix_end p)) (prefixes_of s)
   routers : All (λ r. Covered d (router_end r)) (routers_of s)
 
-settled_quiet : (d : Deadline) (s : Slaac) (k : Clock) → Settled d s → Asleep d k.now → (sync_due s k).expired ≡ false
+settled_quiet : (d : Option Instant) (s : Slaac) (k : Clock) → Settled d s → Asleep d k.now → (sync_due s k).expired ≡ false
 unfolding sync_due
 settled_quiet d s k h a =
     fold_quiet router_end d first (routers_of s)
@@ -143,7 +140,7 @@ module _ (s : Slaac) (k : Clock) where
 
 -- The solicitation: once it had its turn, there is none before the deadline
 
-record Waits (d : Deadline) (sender : Source) (v : Discovery) : Type 0 where
+record Waits (d : Option Instant) (sender : Option Ipv6Addr) (v : Discovery) : Type 0 where
   waits : (c : Clock) → Asleep d c.now → ((solicit_from sender v c).due ≡ false) × ((solicit_from sender v c).discovery ≡ v)
 
 no_turn : (v : Discovery) (c : Clock) → (due v c).expired ≡ false → ((solicitation v c).due ≡ false) × ((solicitation v c).discovery ≡ v)
@@ -159,27 +156,27 @@ none_due v c h = go (eqb v.num_solicitations 0) refl
     go true q = refl
     go false q = h q
 
-retry_waits : (d : Deadline) (c : Clock) (t : Instant) → NotLater d (At t) → Asleep d c.now → (asked_of c t).expired ≡ false
+retry_waits : (d : Option Instant) (c : Clock) (t : Instant) → NotLater d (Some t) → Asleep d c.now → (asked_of c t).expired ≡ false
 retry_waits d c t h a = rw (lt-leb t.0 c.now.0 (before d t c.now h a))
 
 module _ (v : Discovery) (k : Clock) where
   -- it was sent
-  sent_waits : (d : Deadline) → NotLater d (sent v k).clock.deadline → (c : Clock) → Asleep d c.now → (due (sent v k).discovery c).expired ≡ false
+  sent_waits : (d : Option Instant) → NotLater d (sent v k).clock.deadline → (c : Clock) → Asleep d c.now → (due (sent v k).discovery c).expired ≡ false
   unfolding sent
-  sent_waits d h c a = none_due (sent v k).discovery c (λ q. retry_waits d c (retry_at k) (after d (scheduled_of k (retry_at k)).deadline (At (retry_at k)) (rw q at h) (forward_law.kept k (retry_at k))) a)
+  sent_waits d h c a = none_due (sent v k).discovery c (λ q. retry_waits d c (retry_at k) (after d (scheduled_of k (retry_at k)).deadline (Some (retry_at k)) (rw q at h) (forward_law.kept k (retry_at k))) a)
 
   -- it was not due
-  still_waits : (d : Deadline) → (due v k).expired ≡ false → NotLater d (due v k).clock.deadline → (c : Clock) → Asleep d c.now → (due v c).expired ≡ false
+  still_waits : (d : Option Instant) → (due v k).expired ≡ false → NotLater d (due v k).clock.deadline → (c : Clock) → Asleep d c.now → (due v c).expired ≡ false
   unfolding due
   still_waits d e h c a = none_due v c (λ q. go v.phase (rw q at e) (rw q at h))
     where
       go : (p : Phase) → (due_phase p k).expired ≡ false → NotLater d (due_phase p k).clock.deadline → (due_phase p c).expired ≡ false
       go Start e h = absurd (true≢false e)
-      go (Discovering t) e h = retry_waits d c t (after d (asked_of k t).clock.deadline (At t) h (forward_law.covers k t e)) a
+      go (Discovering t) e h = retry_waits d c t (after d (asked_of k t).clock.deadline (Some t) h (forward_law.covers k t e)) a
       go Maintaining e h = refl
 
 module _ (v : Discovery) (k : Clock) where
-  turn_waits : (d : Deadline) → NotLater d (solicitation v k).clock.deadline → (c : Clock) → Asleep d c.now
+  turn_waits : (d : Option Instant) → NotLater d (solicitation v k).clock.deadline → (c : Clock) → Asleep d c.now
       → ((solicitation (solicitation v k).discovery c).due ≡ false) × ((solicitation (solicitation v k).discovery c).discovery ≡ (solicitation v k).discovery)
   unfolding solicitation
   turn_waits d h c a = no_turn (solicitation v k).discovery c (go (due v k).expired refl h)
@@ -190,15 +187,15 @@ module _ (v : Discovery) (k : Clock) where
       go true q g = sent_waits v (due v k).clock d g c a
       go false q g = still_waits v k d q g c a
 
-from_waits : (sender : Source) (v : Discovery) (k : Clock) (d : Deadline) → NotLater d (solicit_from sender v k).clock.deadline → Waits d sender (solicit_from sender v k).discovery
-from_waits Nothing v k d h = record { waits = λ c a. (refl, refl) }
-from_waits (From x) v k d h = record { waits = turn_waits v k d h }
+from_waits : (sender : Option Ipv6Addr) (v : Discovery) (k : Clock) (d : Option Instant) → NotLater d (solicit_from sender v k).clock.deadline → Waits d sender (solicit_from sender v k).discovery
+from_waits None v k d h = record { waits = λ c a. (refl, refl) }
+from_waits (Some x) v k d h = record { waits = turn_waits v k d h }
 
 -- The poll
 
-second : (d : Deadline) (s : Slaac) (t : IfaceAddrs) (r : Routes) (i : ℕ) (up : Bool) (hw : HardwareAddress) (buf : List ℕ) (c : Clock)
+second : (d : Option Instant) (s : Slaac) (t : IfaceAddrs) (r : Routes) (i : ℕ) (up : Bool) (hw : HardwareAddress) (buf : List ℕ) (c : Clock)
     → Settled d s → Waits d (sender_in up t) s.discovery → Asleep d c.now
-    → (poll_on s t r i up hw buf c).polled ≡ record { slaac = s; addrs = t; routes = r; answer = Quiet }
+    → (poll_on s t r i up hw buf c).polled ≡ record { slaac = s; addrs = t; routes = r; answer = Ok Quiet }
 unfolding poll_on turn_of sync_turn
 second d s t r i up hw buf c h w a =
     go x (w.waits c a).0 (w.waits c a).1
@@ -209,11 +206,11 @@ second d s t r i up hw buf c h w a =
     x = solicit_from (sender_in up t) s.discovery c
 
     go : (z : Solicitation) → z.due ≡ false → z.discovery ≡ s.discovery → (sync_due (with_discovery s z.discovery) z.clock).expired ≡ false
-        → (sync_turn (with_discovery s z.discovery) t r i hw c.now z.clock (answer_of z.due buf)).polled ≡ record { slaac = s; addrs = t; routes = r; answer = Quiet }
+        → (sync_turn (with_discovery s z.discovery) t r i hw c.now z.clock (Ok (answer_of z.due buf))).polled ≡ record { slaac = s; addrs = t; routes = r; answer = Ok Quiet }
     go z e f g = rw (g, e, f)
 
 -- what a poll leaves: nothing is to be done before its deadline
-record Rested (d : Deadline) (sender : Source) (s : Slaac) : Type 0 where
+record Rested (d : Option Instant) (sender : Option Ipv6Addr) (s : Slaac) : Type 0 where
   on : s.on ≡ true
   settled : Settled d s
   waits : Waits d sender s.discovery
@@ -229,11 +226,11 @@ rests s t r i up hw buf k on = go (sync_due s1 u.clock).expired refl
     s1 : Slaac
     s1 = with_discovery s u.discovery
 
-    d : Deadline
+    d : Option Instant
     d = (sync_due s1 u.clock).clock.deadline
 
     done : Bool → PolledAt
-    done b = cond b (synced s1 t r i hw k.now (sync_due s1 u.clock).clock u.answer) (asPolled s1 t r (sync_due s1 u.clock).clock u.answer)
+    done b = cond b (synced s1 t r i hw k.now (sync_due s1 u.clock).clock (Ok u.answer)) (asPolled s1 t r (sync_due s1 u.clock).clock (Ok u.answer))
 
     ahead : Waits d (sender_in up t) u.discovery
     ahead = from_waits (sender_in up t) s.discovery k d (asked_forward s1 u.clock).deadline
@@ -248,14 +245,14 @@ rests s t r i up hw buf k on = go (sync_due s1 u.clock).expired refl
     go false q = record { on = on; settled = stays s1 u.clock q; waits = ahead }
 
 -- the buffer of a poll that has nothing to send
-unsent : (sender : Source) (due : Bool) (hw : HardwareAddress) (buf : List ℕ) → due ≡ false → buffer_by sender due hw buf ≡ buf
-unsent Nothing due hw buf h = refl
-unsent (From a) due hw buf h = rw h
+unsent : (sender : Option Ipv6Addr) (due : Bool) (hw : HardwareAddress) (buf : List ℕ) → due ≡ false → buffer_by sender due hw buf ≡ buf
+unsent None due hw buf h = refl
+unsent (Some a) due hw buf h = rw h
 
 misses_nothing : (i : ℕ) (up : Bool) (hw : HardwareAddress) (s : Slaac) (t : IfaceAddrs) (r : Routes) (buf : List ℕ) (k : Clock) (p : Polled) (buf' : List ℕ) (k' : Clock)
-    → Poll i up hw s t r buf k p buf' k' → time_check k.now i ≡ Fine → s.on ≡ true
+    → Poll i up hw s t r buf k p buf' k' → time_check k.now i ≡ Ok tt → s.on ≡ true
     → (up2 : Bool) (hw2 : HardwareAddress) (t2 : IfaceAddrs) (r2 : Routes) (buf2 : List ℕ) (next : Clock) (q : Polled) (buf2' : List ℕ) (next' : Clock)
-    → Poll i up2 hw2 p.slaac t2 r2 buf2 next q buf2' next' → time_check next.now i ≡ Fine
+    → Poll i up2 hw2 p.slaac t2 r2 buf2 next q buf2' next' → time_check next.now i ≡ Ok tt
     → sender_in up2 t2 ≡ sender_in up t → Asleep k'.deadline next.now
     → (q ≡ quietly p.slaac t2 r2) × (buf2' ≡ buf2)
 unfolding buffer_of
@@ -266,7 +263,7 @@ misses_nothing i up hw s t r buf k p buf' k' h ok on up2 hw2 t2 r2 buf2 next q b
   where
     rest : Rested k'.deadline (sender_in up2 t2) p.slaac
     rest =
-        subst (λ (x : Source). Rested k'.deadline x p.slaac) (sym same)
+        subst (λ (x : Option Ipv6Addr). Rested k'.deadline x p.slaac) (sym same)
         (subst (λ (x : Polled). Rested k'.deadline (sender_in up t) x.slaac) (sym (poll_took h ok on).answers)
         (subst (λ (m : Clock). Rested m.deadline (sender_in up t) (poll_on s t r i up hw buf k).polled.slaac) (sym (poll_took h ok on).clock) (rests s t r i up hw buf k on)))
 
@@ -280,7 +277,7 @@ exact_on : (s : Slaac) (t : IfaceAddrs) (r : Routes) (i : ℕ) (up : Bool) (hw :
 unfolding poll_on turn_of sync_turn sync_due leave_expired
 exact_on s t r i up hw buf k on = go (sync_due s1 u.clock).expired refl
   where
-    sender : Source
+    sender : Option Ipv6Addr
     sender = sender_in up t
 
     u : Turn
@@ -289,35 +286,35 @@ exact_on s t r i up hw buf k on = go (sync_due s1 u.clock).expired refl
     s1 : Slaac
     s1 = with_discovery s u.discovery
 
-    d : Deadline
+    d : Option Instant
     d = (sync_due s1 u.clock).clock.deadline
 
     same : u.clock.now ≡ k.now
     same = (turn_forward s.discovery sender buf k).now
 
     done : Bool → PolledAt
-    done b = cond b (synced s1 t r i hw k.now (sync_due s1 u.clock).clock u.answer) (asPolled s1 t r (sync_due s1 u.clock).clock u.answer)
+    done b = cond b (synced s1 t r i hw k.now (sync_due s1 u.clock).clock (Ok u.answer)) (asPolled s1 t r (sync_due s1 u.clock).clock (Ok u.answer))
 
-    retry : All (λ x. NotLater d (At x)) (retry_from sender u.discovery)
+    retry : All (λ x. NotLater d (Some x)) (retry_from sender u.discovery)
     retry =
         retry_not_later sender u.discovery d
-        (λ source x h p n. after d u.clock.deadline (At x) (asked_forward s1 u.clock).deadline (turn-covers s.discovery sender buf k source x h p n))
+        (λ source x h p n. after d u.clock.deadline (Some x) (asked_forward s1 u.clock).deadline (turn-covers s.discovery sender buf k source x h p n))
 
-    before_it : All (λ x. NotLater d (At x)) (already k.deadline)
+    before_it : All (λ x. NotLater d (Some x)) (already k.deadline)
     before_it = own_not_later d k.deadline (after d u.clock.deadline k.deadline (asked_forward s1 u.clock).deadline (turn_forward s.discovery sender buf k).deadline)
 
     -- what is left: the deadline is one of its times, and is not later than any
     left : (s2 : Slaac) → s2.discovery ≡ u.discovery → Settled d s2
-        → ((e : Deadline) → Ends prefix_end k.now (prefixes_of s1) e → InTimes e (ends_of prefix_end (prefixes_of s2)))
-        → ((e : Deadline) → Ends router_end k.now (routers_of s1) e → InTimes e (ends_of router_end (routers_of s2)))
+        → ((e : Option Instant) → Ends prefix_end k.now (prefixes_of s1) e → InTimes e (ends_of prefix_end (prefixes_of s2)))
+        → ((e : Option Instant) → Ends router_end k.now (routers_of s1) e → InTimes e (ends_of router_end (routers_of s2)))
         → IsEarliest d (already k.deadline ++ slaac_times sender s2)
     left s2 e h of-prefix of-router =
         subst (λ (v : Discovery). IsEarliest d (together k.deadline (retry_from sender v) (ends_of prefix_end (prefixes_of s2)) (ends_of router_end (routers_of s2)))) (sym e)
         (earliest d _
         (asks_join s1 u.clock k.now same k.deadline (retry_from sender u.discovery) (turn_joins sender s.discovery k) (ends_of prefix_end (prefixes_of s2)) (ends_of router_end (routers_of s2)) of-prefix of-router)
-        (all_append (λ x. NotLater d (At x)) (already k.deadline) _ before_it
-        (all_append (λ x. NotLater d (At x)) (retry_from sender u.discovery) _ retry
-        (all_append (λ x. NotLater d (At x)) (ends_of prefix_end (prefixes_of s2)) _ (ends_not_later prefix_end d (prefixes_of s2) h.prefixes) (ends_not_later router_end d (routers_of s2) h.routers)))))
+        (all_append (λ x. NotLater d (Some x)) (already k.deadline) _ before_it
+        (all_append (λ x. NotLater d (Some x)) (retry_from sender u.discovery) _ retry
+        (all_append (λ x. NotLater d (Some x)) (ends_of prefix_end (prefixes_of s2)) _ (ends_not_later prefix_end d (prefixes_of s2) h.prefixes) (ends_not_later router_end d (routers_of s2) h.routers)))))
 
     go : (b : Bool) → (sync_due s1 u.clock).expired ≡ b → IsEarliest (done b).clock.deadline (already k.deadline ++ slaac_times sender (done b).polled.slaac)
     go true q =
@@ -331,7 +328,7 @@ exact_on s t r i up hw buf k on = go (sync_due s1 u.clock).expired refl
     go false q = left s1 refl (stays s1 u.clock q) (λ e w. in_ends prefix_end k.now (prefixes_of s1) e w) (λ e w. in_ends router_end k.now (routers_of s1) e w)
 
 exact : (i : ℕ) (up : Bool) (hw : HardwareAddress) (s : Slaac) (t : IfaceAddrs) (r : Routes) (buf : List ℕ) (k : Clock) (p : Polled) (buf' : List ℕ) (k' : Clock)
-    → Poll i up hw s t r buf k p buf' k' → time_check k.now i ≡ Fine → s.on ≡ true
+    → Poll i up hw s t r buf k p buf' k' → time_check k.now i ≡ Ok tt → s.on ≡ true
     → IsEarliest k'.deadline (already k.deadline ++ slaac_times (sender_in up t) p.slaac)
 exact i up hw s t r buf k p buf' k' h ok on =
     subst (λ (x : Polled). IsEarliest k'.deadline (already k.deadline ++ slaac_times (sender_in up t) x.slaac)) (sym (poll_took h ok on).answers)
@@ -340,9 +337,9 @@ exact i up hw s t r buf k p buf' k' h ok on =
 
 -- A turn
 
-alone : (d : Deadline) → IsEarliest d (already d ++ [])
+alone : (d : Option Instant) → IsEarliest d (already d ++ [])
 alone None = refl
-alone (At t) = (inl refl, (omega arith, tt))
+alone (Some t) = (inl refl, (omega arith, tt))
 
 polls_exact : {k k' : Clock} {times : List Instant} → Polls k times k' → IsEarliest k'.deadline (already k.deadline ++ times)
 polls_exact (none k) = alone k.deadline

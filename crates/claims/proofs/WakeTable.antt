@@ -8,6 +8,7 @@ use mathlib.Core.List.{[], ◌∷◌, ◌++◌, map}
 use mathlib.Core.Logic.{◌⊎◌, inl, inr}
 use mathlib.Core.Path.{◌≡◌, refl, sym, ap, ◌∙◌, subst}
 use native.Mathlib.Omega.{arith}
+use Rattle.std.specs.Prelude.{Option, None, Some as Just}
 use Rattle.claims.proofs.Lists.{length_last_first, all_last_first, all_map, all_weaken, some_after, some_last_first, some_map}
 use Rattle.claims.proofs.Sweep.{sweep_walk}
 use Rattle.claims.proofs.Walk.{keep, walk}
@@ -26,8 +27,6 @@ use Rattle.time.specs.ClockRules.{sooner, scheduled_of}
 use Rattle.time.specs.declared.Answer.{Answer}
 use Rattle.time.specs.Forward.{NotLater, Forward}
 use Rattle.time.specs.declared.Clock.{Clock}
-use Rattle.time.specs.declared.Deadline.TheVariants.{None, At}
-use Rattle.time.specs.declared.Deadline.{Deadline}
 use Rattle.time.specs.declared.Instant.{Instant}
 
 -- One entry
@@ -142,16 +141,16 @@ walk_same i now t same h = sweep_walk i now t ∙ ap (walk (length t) i now) sam
 
 -- What the deadline covers
 
-abbrev pub Covered : Deadline → State → Type 0
+abbrev pub Covered : Option Instant → State → Type 0
 Covered d Started = ⊥
-Covered d (Incomplete p t) = NotLater d (At t)
-Covered d (Reachable a e) = NotLater d (At e)
+Covered d (Incomplete p t) = NotLater d (Just t)
+Covered d (Reachable a e) = NotLater d (Just e)
 Covered d (Stale a) = Unit {0}
 
-sooner_covers : (a b : Deadline) (s : State) → NotLater a b → Covered b s → Covered a s
+sooner_covers : (a b : Option Instant) (s : State) → NotLater a b → Covered b s → Covered a s
 sooner_covers a b Started h c = c
-sooner_covers a b (Incomplete p d) h c = after a b (At d) h c
-sooner_covers a b (Reachable x e) h c = after a b (At e) h c
+sooner_covers a b (Incomplete p d) h c = after a b (Just d) h c
+sooner_covers a b (Reachable x e) h c = after a b (Just e) h c
 sooner_covers a b (Stale x) h c = tt
 
 one_covered : (k : Clock) (s : State) → NotDue k.now s → Covered (expire_clock_state k s).deadline (expire_state k.now s)
@@ -182,24 +181,24 @@ all_covered now k (e ∷ t) same h = (
 
 -- Before the deadline nothing is to be done
 
-pub before : (d : Deadline) (t next : Instant) → NotLater d (At t) → Asleep d next → next.0 < t.0
+pub before : (d : Option Instant) (t next : Instant) → NotLater d (Just t) → Asleep d next → next.0 < t.0
 before None t next h a = absurd h
-before (At d) t next h a = omega arith
+before (Just d) t next h a = omega arith
 
-pub still : (d : Deadline) (next : Instant) (s : State) → Covered d s → Asleep d next → (expire_state next s ≡ s) × NotDue next s
+pub still : (d : Option Instant) (next : Instant) (s : State) → Covered d s → Asleep d next → (expire_state next s ≡ s) × NotDue next s
 still d next Started c a = absurd c
 still d next (Incomplete p t) c a = (refl, before d t next c a)
 still d next (Reachable x e) c a = (rw (lt-leb e.0 next.0 (before d e next c a)), tt)
 still d next (Stale x) c a = (refl, tt)
 
-pub still_all : (d : Deadline) (next : Instant) → Asleep d next → (t : Table) → All (λ e. Covered d e.state) t → map (expire next) t ≡ t
+pub still_all : (d : Option Instant) (next : Instant) → Asleep d next → (t : Table) → All (λ e. Covered d e.state) t → map (expire next) t ≡ t
 still_all d next a [] h = refl
 still_all d next a (e ∷ t) h = rw ((still d next e.state h.0 a).0, still_all d next a t h.1)
 
 pub none_due_on : (i : ℕ) (now : Instant) (t : Table) → All (NoneDue now) t → All (λ e. due i now e ≡ false) t
 none_due_on i now t h = all_weaken (NoneDue now) (λ e. due i now e ≡ false) (λ e g. not_due i now e (λ same. g)) t h
 
-pub calm_all : (d : Deadline) (j : ℕ) (next : Instant) → Asleep d next → (t : Table) → All (λ e. Covered d e.state) t → All (λ e. due j next e ≡ false) t
+pub calm_all : (d : Option Instant) (j : ℕ) (next : Instant) → Asleep d next → (t : Table) → All (λ e. Covered d e.state) t → All (λ e. due j next e ≡ false) t
 calm_all d j next a [] h = tt
 calm_all d j next a (e ∷ t) h = (not_due j next e (λ same. (still d next e.state h.0 a).1), calm_all d j next a t h.1)
 
@@ -279,33 +278,33 @@ module _ (now x : Instant) (ahead_of : now.0 < x.0) where
 
 -- Where a deadline came from: it was there before, or the table waits for it
 
-pub record Waiting (now : Instant) (t : Table) (d : Deadline) : Type 0 where
+pub record Waiting (now : Instant) (t : Table) (d : Option Instant) : Type 0 where
   pub time : Instant
-  pub is : d ≡ At time
+  pub is : d ≡ Just time
   pub later : now.0 < time.0
   pub somewhere : Some (WaitsEntry time) t
 
-abbrev pub Came : Instant → Deadline → Table → Deadline → Type 0
+abbrev pub Came : Instant → Option Instant → Table → Option Instant → Type 0
 Came now base t d = (d ≡ base) ⊎ Waiting now t d
 
-record WaitingOn (now : Instant) (s : State) (d : Deadline) : Type 0 where
+record WaitingOn (now : Instant) (s : State) (d : Option Instant) : Type 0 where
   time : Instant
-  is : d ≡ At time
+  is : d ≡ Just time
   later : now.0 < time.0
   waits : WaitsAt time s
 
-pub sooner_one : (d : Deadline) (t : Instant) → (sooner d t ≡ d) ⊎ (sooner d t ≡ At t)
+pub sooner_one : (d : Option Instant) (t : Instant) → (sooner d t ≡ d) ⊎ (sooner d t ≡ Just t)
 sooner_one None t = inr refl
-sooner_one (At e) t = go (ltb t.0 e.0)
+sooner_one (Just e) t = go (ltb t.0 e.0)
   where
-    go : (x : Bool) → (cond {A = Deadline} x (At t) (At e) ≡ At e) ⊎ (cond {A = Deadline} x (At t) (At e) ≡ At t)
+    go : (x : Bool) → (cond {A = Option Instant} x (Just t) (Just e) ≡ Just e) ⊎ (cond {A = Option Instant} x (Just t) (Just e) ≡ Just t)
     go true = inr refl
     go false = inl refl
 
 joins : (k : Clock) (t : Instant) (s : State) → k.now.0 < t.0 → WaitsAt t s → ((scheduled_of k t).deadline ≡ k.deadline) ⊎ WaitingOn k.now s (scheduled_of k t).deadline
 joins k t s h w = go (sooner_one k.deadline t)
   where
-    go : (sooner k.deadline t ≡ k.deadline) ⊎ (sooner k.deadline t ≡ At t) → ((scheduled_of k t).deadline ≡ k.deadline) ⊎ WaitingOn k.now s (scheduled_of k t).deadline
+    go : (sooner k.deadline t ≡ k.deadline) ⊎ (sooner k.deadline t ≡ Just t) → ((scheduled_of k t).deadline ≡ k.deadline) ⊎ WaitingOn k.now s (scheduled_of k t).deadline
     go (inl q) = inl q
     go (inr q) = inr (record { time = t; is = q; later = h; waits = w })
 
@@ -345,7 +344,7 @@ pass_came now late k (e ∷ t) same = go here_came (pass_came now late (expire_c
     go (inr w) (inl q) = inr (record { time = w.time; is = q ∙ w.is; later = w.later; somewhere = inl w.waits })
 
 -- a sweep at now, of any interface
-pub swept_came : (now : Instant) → now.0 ≤ 2 ^ 62 → (base : Deadline) (i : ℕ) (k : Clock) (t : Table) → k.now ≡ now → Came now base t k.deadline
+pub swept_came : (now : Instant) → now.0 ≤ 2 ^ 62 → (base : Option Instant) (i : ℕ) (k : Clock) (t : Table) → k.now ≡ now → Came now base t k.deadline
     → Came now base (sweep_table i now t).table (expire_clocks k t).deadline
 unfolding expire_clocks
 swept_came now late base i k t same c = go c (pass_came now late k t same)
@@ -447,33 +446,33 @@ no_times (e ∷ t) h = go e.state h.0 (no_times t h.1)
     go (Reachable a d) c q = absurd c
     go (Stale a) c q = q
 
-all_times : (d : Instant) (t : Table) → All (λ e. Covered (At d) e.state) t → All (λ x. d.0 ≤ x.0) (times_of t)
+all_times : (d : Instant) (t : Table) → All (λ e. Covered (Just d) e.state) t → All (λ x. d.0 ≤ x.0) (times_of t)
 all_times d [] h = tt
 all_times d (e ∷ t) h = go e.state h.0 (all_times d t h.1)
   where
-    go : (s : State) → Covered (At d) s → All (λ x. d.0 ≤ x.0) (times_of t) → All (λ x. d.0 ≤ x.0) (waits_for s ++ times_of t)
+    go : (s : State) → Covered (Just d) s → All (λ x. d.0 ≤ x.0) (times_of t) → All (λ x. d.0 ≤ x.0) (waits_for s ++ times_of t)
     go Started c q = absurd c
     go (Incomplete p x) c q = (c, q)
     go (Reachable a x) c q = (c, q)
     go (Stale a) c q = q
 
-pub earliest : (now : Instant) (base : Deadline) (t : Table) (d : Deadline) → Came now base t d → NotLater d base → All (λ e. Covered d e.state) t
+pub earliest : (now : Instant) (base : Option Instant) (t : Table) (d : Option Instant) → Came now base t d → NotLater d base → All (λ e. Covered d e.state) t
     → IsEarliest d (already base ++ times_of t)
 earliest now None t None c h g = no_times t g
-earliest now (At b) t None c h g = absurd h
-earliest now base t (At d) c h g = (is_one c, none_before base h)
+earliest now (Just b) t None c h g = absurd h
+earliest now base t (Just d) c h g = (is_one c, none_before base h)
   where
-    is_one : Came now base t (At d) → Member d (already base ++ times_of t)
-    is_one (inl q) = subst (λ (b : Deadline). Member d (already b ++ times_of t)) q (inl refl)
+    is_one : Came now base t (Just d) → Member d (already base ++ times_of t)
+    is_one (inl q) = subst (λ (b : Option Instant). Member d (already b ++ times_of t)) q (inl refl)
     is_one (inr w) = some_after (λ y. y ≡ d) (already base) (times_of t) (member_times d t (subst (λ (y : Instant). Some (WaitsEntry y) t) (sym (at_same w.is)) w.somewhere))
       where
-        time_in : Deadline → Instant
+        time_in : Option Instant → Instant
         time_in None = d
-        time_in (At y) = y
+        time_in (Just y) = y
 
-        at_same : {y : Instant} → At d ≡ At y → d ≡ y
+        at_same : {y : Instant} → Just d ≡ Just y → d ≡ y
         at_same q = ap time_in q
 
-    none_before : (b : Deadline) → NotLater (At d) b → All (λ x. d.0 ≤ x.0) (already b ++ times_of t)
+    none_before : (b : Option Instant) → NotLater (Just d) b → All (λ x. d.0 ≤ x.0) (already b ++ times_of t)
     none_before None q = all_times d t g
-    none_before (At b) q = (q, all_times d t g)
+    none_before (Just b) q = (q, all_times d t g)

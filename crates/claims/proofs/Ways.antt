@@ -7,6 +7,8 @@ use mathlib.Core.Bool.{Bool, true, false, cond, true≢false}
 use mathlib.Core.List.{List, [], ◌∷◌, ◌++◌, map}
 use mathlib.Core.Path.{◌≡◌, refl, sym, ap, ◌∙◌, subst}
 use native.Mathlib.Omega.{arith}
+use Rattle.std.specs.Prelude.{Result, Ok, Err}
+use Rattle.wire.specs.declared.error.Refusal.{Refusal}
 use Rattle.claims.proofs.Follows.{calls_next}
 use Rattle.claims.proofs.Lists.{all_of, all_append, all_map, all_weaken, all_both, all_dropped_with, members}
 use Rattle.claims.proofs.Orphans.{orphan_means, undisturbed_prefix, filled_stale}
@@ -19,8 +21,6 @@ use Rattle.pending.specs.QueueRules.{Queue, key_of, packet, has_key, orphaned, o
 use Rattle.pending.specs.declared.PendingPacket.{PendingPacket}
 use Rattle.table.specs.Table.{any_of, first_of, dropped}
 use Rattle.wire.specs.Refusals.{iface_check}
-use Rattle.wire.specs.declared.error.Check.TheVariants.{Fine, Refused as Fails}
-use Rattle.wire.specs.declared.error.Check.{Check}
 
 of_departs : (R : Departure → Type 0) (way : Way) (ns : List Numbered) → All (λ (n : Numbered). R (departs way n)) ns → All R (map (departs way) ns)
 of_departs R way ns h = all_map (λ n. R (departs way n)) R (departs way) (λ n q. q) ns h
@@ -54,7 +54,7 @@ first_oldest test (x ∷ ns) = go (test x.packet) refl (first_oldest test ns)
         all_weaken (λ (n : Numbered). (test n.packet ≡ true) × Oldest test n ns) (λ (n : Numbered). (test n.packet ≡ true) × Oldest test n (x ∷ ns))
         (λ n h. (h.0, older_one test x n ns e h.1)) (first_of (asks test) alone [] ns) r
 
-released_for : (k : Key) (n : Numbered) (ns : List Numbered) → iface_check k.iface ≡ Fine → has_key k n.packet ≡ true → Oldest (has_key k) n ns
+released_for : (k : Key) (n : Numbered) (ns : List Numbered) → iface_check k.iface ≡ Ok tt → has_key k n.packet ≡ true → Oldest (has_key k) n ns
     → ByRelease n (release k) ns
 released_for k n ns ok same o =
     let e : k ≡ key_of n.packet = same_key_true k (key_of n.packet) same in
@@ -68,7 +68,7 @@ released_for k n ns ok same o =
 full_length : (ns : List Numbered) → is_full_of ns ≡ true → 8 ≤ length ns
 full_length ns e = omega (arith, length-map ns packet_of, ltb-false (length (queue_of ns)) 8 (not-true (ltb (length (queue_of ns)) 8) e))
 
-pushed_for : (k : Key) (h : ℕ) (t : Table) (ns : List Numbered) (b : Bool) → iface_check k.iface ≡ Fine → is_full_of ns ≡ b
+pushed_for : (k : Key) (h : ℕ) (t : Table) (ns : List Numbered) (b : Bool) → iface_check k.iface ≡ Ok tt → is_full_of ns ≡ b
     → All (λ (n : Numbered). ByOverflow n (push k h) ns) (cond b (take 1 ns) [])
 pushed_for k h t [] true ok e = tt
 pushed_for k h t (n ∷ ns) true ok e =
@@ -99,9 +99,9 @@ on_its_iface i p e = eqb-true i p.iface e
 abbrev For : Move → Table → List Numbered → Departure → Type 0
 For m t ns d = Reason d.way d.who m t ns
 
-taken_for : (R : Departure → Type 0) (x : Parted) (ns : List Numbered) (c : Check) → (c ≡ Fine → All R x.leave) → All R (unless_refused c ns x).leave
-taken_for R x ns (Fails why) f = tt
-taken_for R x ns Fine f = f refl
+taken_for : (R : Departure → Type 0) (x : Parted) (ns : List Numbered) (c : Result (Unit {0}) Refusal) → (c ≡ Ok tt → All R x.leave) → All R (unless_refused c ns x).leave
+taken_for R x ns (Err why) f = tt
+taken_for R x ns (Ok tt) f = f refl
 
 move_ways : (m : Move) (t : Table) (ns : List Numbered) → All (For m t ns) (parted m t ns).leave
 move_ways (on_cache c) t ns = out_pass (For (on_cache c) t ns) by_off (cleared_by_is c) ns (cleared_for c)

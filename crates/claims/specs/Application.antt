@@ -1,10 +1,9 @@
 -- What the application added never goes: no call and no part of a call takes its addresses or its routes out, or changes them. Assumes nothing.
-use Rattle.std.specs.Prelude.{ℕ, ◌≡◌, Bool, List}
+use Rattle.std.specs.Prelude.{ℕ, ◌≡◌, Bool, List, Ok}
 use Rattle.table.specs.Table.{kept}
 use Rattle.time.specs.declared.Instant.{Instant}
 use Rattle.wire.specs.declared.ipv6.Ipv6Addr.{Ipv6Addr}
 use Rattle.wire.specs.declared.ipv6.Ipv6Cidr.{Ipv6Cidr}
-use Rattle.wire.specs.declared.error.Outcome.TheVariants.{Done}
 use Rattle.wire.specs.declared.ethernet.HardwareAddress.{HardwareAddress}
 use Rattle.iface.specs.declared.addr.AddrOrigin.TheVariants.{Manual}
 use Rattle.iface.specs.declared.addr.Preferred.{Preferred}
@@ -38,8 +37,8 @@ pub record NeverGoes : Type 0 where
   pub route : (i : ℕ) (hw : HardwareAddress) (e : Route) (x y : Host) (cs : List HostCall) → Run i hw x cs y
       → e.origin ≡ ManualRoute → Member e (routes_of x.routes) → Member e (routes_of y.routes)
   -- So it is from the call on that added it: "What the application adds has no expiry."
-  pub address_added : (t : IfaceAddrs) (i : ℕ) (c : Ipv6Cidr) (r : Added) → AddedTo t i c r → r.outcome ≡ Done → Member (manual_addr c) (addrs_of r.addrs)
-  pub route_added : (t : Routes) (i : ℕ) (c : Ipv6Cidr) (via : Ipv6Addr) (r : AddedRoute) → AddedRouteTo t i c via r → r.outcome ≡ Done
+  pub address_added : (t : IfaceAddrs) (i : ℕ) (c : Ipv6Cidr) (r : Added) → AddedTo t i c r → r.outcome ≡ Ok tt → Member (manual_addr c) (addrs_of r.addrs)
+  pub route_added : (t : Routes) (i : ℕ) (c : Ipv6Cidr) (via : Ipv6Addr) (r : AddedRoute) → AddedRouteTo t i c via r → r.outcome ≡ Ok tt
       → Member (manual_route i c via) (routes_of r.routes)
   -- Nor does any other call add one or change their order: the application's entries are the same list after it.
   pub addresses_alike : (i : ℕ) (hw : HardwareAddress) (x y : Host) (c : HostCall) → Step i hw x c y → (c ≡ add_addr → ⊥)

@@ -1,20 +1,17 @@
 -- The library's calls that return the neighbour cache: what each does to its entries, what it answers, and runs of calls. What else returns one,
 -- the main loop and the event program, is made of these. Assumes nothing.
 -- A call that is not given the cache cannot change it: states are values.
-use Rattle.std.specs.Prelude.{ℕ, Bool, true, false, cond, List, [], ◌∷◌, length, get_or, ltb}
+use Rattle.neighbor.specs.declared.Neighbor.{Neighbor}
+use Rattle.std.specs.Prelude.{ℕ, Bool, true, false, cond, List, [], ◌∷◌, length, get_or, ltb, Result, Ok, Err, Option, None}
 use Rattle.table.specs.Table.{first_of}
 use Rattle.time.specs.declared.Instant.{Instant}
 use Rattle.wire.specs.declared.ethernet.HardwareAddress.{HardwareAddress}
 use Rattle.wire.specs.declared.error.Refusal.{Refusal}
-use Rattle.wire.specs.declared.error.Check.{Check}
-use Rattle.wire.specs.declared.error.Check.TheVariants.{Fine, Refused as Fails}
 use Rattle.wire.specs.Refusals.{first_refusal, too_late, no_such_iface, iface_check, key_check, fill_check}
 use Rattle.neighbor.specs.declared.State.{State}
 use Rattle.neighbor.specs.declared.State.TheVariants.{Started, Reachable}
 use Rattle.neighbor.specs.declared.Answer.{Answer as Found}
 use Rattle.neighbor.specs.declared.Answer.TheVariants.{NotFound}
-use Rattle.neighbor.specs.declared.Got.{Got}
-use Rattle.neighbor.specs.declared.Got.TheVariants.{Nothing}
 use Rattle.neighbor.specs.NeighborRules.{Table, Key, lasting, is_key, find, insert_state, remove_key, clear_iface}
 use Rattle.neighbor.specs.CacheCalls.{answer_in, shown, blank}
 use Rattle.sweep.specs.declared.ProbeEvent.{ProbeEvent}
@@ -41,18 +38,18 @@ pub data Call : Type 0 where
 
 -- Refusals: the table's first row that fails
 
-unfoldable pub check : Call → Check
+unfoldable pub check : Call → Result (Unit {0}) Refusal
 check (lookup k) = key_check k.iface k.addr
 check (start k) = key_check k.iface k.addr
 check (fill k h now) = fill_check now k.iface k.addr h
 check (insert k h expires) = fill_check expires k.iface k.addr h
 check (get k) = iface_check k.iface
-check (at n) = Fine
+check (at n) = Ok tt
 check (remove k) = iface_check k.iface
 check (clear i) = iface_check i
 check (sweep i now) = first_refusal (too_late now ∷ no_such_iface i ∷ [])
-check (advertise k now heard) = Fine
-check (turn_off i went) = Fine
+check (advertise k now heard) = Ok tt
+check (turn_off i went) = Ok tt
 
 -- Effects
 
@@ -84,9 +81,9 @@ if_taken (turn_off i false) = nothing
 if_taken (turn_off i true) = clears i
 
 -- "A refusal returns its number and changes nothing." "a refused sweep is none"
-abbrev pub effect_by : Check → Call → Effect
-effect_by (Fails why) c = nothing
-effect_by Fine c = if_taken c
+abbrev pub effect_by : Result (Unit {0}) Refusal → Call → Effect
+effect_by (Err why) c = nothing
+effect_by (Ok tt) c = if_taken c
 
 abbrev pub effect : Call → Effect
 effect c = effect_by (check c) c
@@ -109,27 +106,27 @@ next c t = does (effect c) t
 pub data Answer : Type 0 where
   refused : Refusal → Answer
   done : Answer
-  looked : Found → Answer
-  got : Got → Answer
+  looked : Result Found Refusal → Answer
+  got : Result (Option Neighbor) Refusal → Answer
   swept : ℕ → List ProbeEvent → Answer
   not_of_the_cache : Answer
 
 abbrev pub reply : Call → Table → Answer
-reply (lookup k) t = looked (first_of (is_key k) answer_in NotFound t)
+reply (lookup k) t = looked (first_of (is_key k) answer_in (Ok NotFound) t)
 reply (start k) t = done
 reply (fill k h now) t = done
 reply (insert k h expires) t = done
-reply (get k) t = got (first_of (is_key k) shown Nothing t)
-reply (at n) t = got (cond (ltb n (length t)) (shown (get_or t n blank)) Nothing)
-reply (remove k) t = got (cond (ltb (find k t) (length t)) (shown (get_or t (find k t) blank)) Nothing)
+reply (get k) t = got (first_of (is_key k) shown (Ok None) t)
+reply (at n) t = got (cond (ltb n (length t)) (shown (get_or t n blank)) (Ok None))
+reply (remove k) t = got (cond (ltb (find k t) (length t)) (shown (get_or t (find k t) blank)) (Ok None))
 reply (clear i) t = done
 reply (sweep i now) t = swept i (sweep_table i now t).events
 reply (advertise k now heard) t = not_of_the_cache
 reply (turn_off i went) t = not_of_the_cache
 
-abbrev pub answer_by : Check → Call → Table → Answer
-answer_by (Fails why) c t = refused why
-answer_by Fine c t = reply c t
+abbrev pub answer_by : Result (Unit {0}) Refusal → Call → Table → Answer
+answer_by (Err why) c t = refused why
+answer_by (Ok tt) c t = reply c t
 
 abbrev pub answer : Call → Table → Answer
 answer c t = answer_by (check c) c t

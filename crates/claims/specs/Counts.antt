@@ -1,6 +1,8 @@
 -- Request 2026-10, "Where did the report go": what became of the packets of a handle, counted from the calls of the queue and their answers. Assumes
 -- nothing.
-use Rattle.std.specs.Prelude.{ℕ, ◌+◌, ◌≡◌, true, false, List, [], ◌∷◌, ◌++◌, map}
+use Rattle.wire.specs.declared.error.Refusal.{Refusal}
+use Rattle.pending.specs.declared.PendingPacket.{PendingPacket}
+use Rattle.std.specs.Prelude.{ℕ, ◌+◌, ◌≡◌, true, false, List, [], ◌∷◌, ◌++◌, map, Option, Some, None, Result, Ok, Err}
 use Rattle.wire.specs.declared.ipv6.Ipv6Addr.{Ipv6Addr}
 use Rattle.wire.specs.declared.error.Refusal.TheVariants.{NoSuchIface}
 use Rattle.neighbor.specs.declared.NeighborCache.{NeighborCache}
@@ -9,15 +11,9 @@ use Rattle.neighbor.specs.NeighborRules.{Key, entry}
 use Rattle.neighbor.specs.CacheCalls.{key, with_entries, empty as noNeighbours}
 use Rattle.pending.specs.declared.PendingQueue.{PendingQueue}
 use Rattle.pending.specs.declared.Handles.{Handles}
-use Rattle.pending.specs.declared.Push.{Push}
-use Rattle.pending.specs.declared.Push.TheVariants.{Refused as Denied, Queued, Dropped}
 use Rattle.pending.specs.declared.Pushed.{Pushed}
-use Rattle.pending.specs.declared.Release.{Release}
-use Rattle.pending.specs.declared.Release.TheVariants.{Handle}
 use Rattle.pending.specs.declared.Released.{Released}
 use Rattle.pending.specs.declared.Purged.{Purged}
-use Rattle.pending.specs.declared.Waiting.{Waiting}
-use Rattle.pending.specs.declared.Waiting.TheVariants.{Is}
 use Rattle.pending.specs.QueueRules.{Queue, packet}
 use Rattle.pending.specs.QueueCalls.{packets, empty, pushed_out, released_out, PushedTo, ReleasedTo, OrphansPurged, PurgedTo, WaitingAt}
 use Rattle.pending.specs.QueueCount.{count_of, waiting}
@@ -38,20 +34,20 @@ use Rattle.claims.specs.Examples.{formed}
 -- A call of the queue with its answer, as the counts see it. Of what it was called with, only the handle of a push: none of them asks for a key, an
 -- interface, an index or a table.
 pub data Answered : Type 0 where
-  push : ℕ → Push → Answered
-  release : Release → Answered
+  push : ℕ → Result (Option ℕ) Refusal → Answered
+  release : Result (Option ℕ) Refusal → Answered
   purge_orphans : Handles → Answered
   purge_iface : Handles → Answered
   turn_off : Handles → Answered
-  at : Waiting → Answered
+  at : Option PendingPacket → Answered
 
 -- The five counts: "The five counts are defined from the calls and their answers, and not kept in the queue."
 
 -- a push brings its handle, "refused ones aside"
-abbrev pub taken : ℕ → Push → List ℕ
-taken h (Denied why) = []
-taken h Queued = h ∷ []
-taken h (Dropped oldest) = h ∷ []
+abbrev pub taken : ℕ → Result (Option ℕ) Refusal → List ℕ
+taken h (Err why) = []
+taken h (Ok None) = h ∷ []
+taken h (Ok (Some oldest)) = h ∷ []
 
 -- the handles that a call adds to each of the five
 pub record Tally : Type 0 where
@@ -119,7 +115,7 @@ pub data Step : PendingQueue → Call → Answered → PendingQueue → Type 0 w
   purges_iface : (q : PendingQueue) (i : ℕ) (r : Purged) → PurgedTo q i r → Step q (to_purge_iface i) (purge_iface r.handles) r.queue
   turns_off : (q : PendingQueue) (s : Slaac) (t : IfaceAddrs) (routes : Routes) (c : NeighborCache) (i : ℕ) (x : TurnedOff) → TurnedOffTo s t routes c q i x
       → Step q (to_turn_off s t routes c i) (turn_off x.handles) x.queue
-  lists : (q : PendingQueue) (n : ℕ) (r : Waiting) → WaitingAt q n r → Step q (to_list n) (at r) q
+  lists : (q : PendingQueue) (n : ℕ) (r : Option PendingPacket) → WaitingAt q n r → Step q (to_list n) (at r) q
 
 -- calls one after the other
 pub data Run : PendingQueue → List Call → List Answered → PendingQueue → Type 0 where
@@ -152,14 +148,14 @@ two_handles h j = record { slots = h ∷ j ∷ 0 ∷ 0 ∷ 0 ∷ 0 ∷ 0 ∷ 0 �
 -- calls in which 7 occurs, each by itself: pushed, dropped by another's push, refused; released; twice in the answer of each purge, and of turning off; listed
 abbrev pub single_calls : List Answered
 single_calls =
-    push 7 Queued
-    ∷ push 1 (Dropped 7)
-    ∷ push 7 (Denied NoSuchIface)
-    ∷ release (Handle 7)
+    push 7 (Ok None)
+    ∷ push 1 (Ok (Some 7))
+    ∷ push 7 (Err NoSuchIface)
+    ∷ release (Ok (Some 7))
     ∷ purge_orphans (two_handles 7 7)
     ∷ purge_iface (two_handles 7 7)
     ∷ turn_off (two_handles 7 7)
-    ∷ at (Is (packet (node_on 0 1) 7))
+    ∷ at (Some (packet (node_on 0 1) 7))
     ∷ []
 
 -- fe80::1 of interface 0 is being resolved, and nobody else
@@ -188,20 +184,20 @@ every_way_calls =
 
 abbrev pub every_way_is : List Answered
 every_way_is =
-    push 7 Queued
-    ∷ push 7 Queued
-    ∷ push 7 Queued
-    ∷ push 7 Queued
-    ∷ push 7 Queued
-    ∷ push 1 Queued
-    ∷ push 2 Queued
-    ∷ push 3 Queued
-    ∷ push 7 (Dropped 7)
-    ∷ push 7 (Denied NoSuchIface)
-    ∷ release (Handle 7)
+    push 7 (Ok None)
+    ∷ push 7 (Ok None)
+    ∷ push 7 (Ok None)
+    ∷ push 7 (Ok None)
+    ∷ push 7 (Ok None)
+    ∷ push 1 (Ok None)
+    ∷ push 2 (Ok None)
+    ∷ push 3 (Ok None)
+    ∷ push 7 (Ok (Some 7))
+    ∷ push 7 (Err NoSuchIface)
+    ∷ release (Ok (Some 7))
     ∷ purge_iface (one_handle 7)
     ∷ purge_orphans (one_handle 7)
-    ∷ at (Is (packet (node_on 0 1) 7))
+    ∷ at (Some (packet (node_on 0 1) 7))
     ∷ []
 
 -- 0 is pushed, and 5 on interface 1, which is purged: the answer's eight slots are 5 and seven zeros, its count 1. The 5 came back, and no 0.
@@ -209,7 +205,7 @@ abbrev pub zero_calls : List Call
 zero_calls = to_push (node_on 0 1) 0 ∷ to_push (node_on 1 1) 5 ∷ to_purge_iface 1 ∷ []
 
 abbrev pub zero_waits : List Answered
-zero_waits = push 0 Queued ∷ push 5 Queued ∷ purge_iface (one_handle 5) ∷ []
+zero_waits = push 0 (Ok None) ∷ push 5 (Ok None) ∷ purge_iface (one_handle 5) ∷ []
 
 -- and then interface 0 is purged
 abbrev pub zero_goes : List Answered
@@ -231,7 +227,7 @@ off_calls t =
 
 -- with these handles back, the first time
 abbrev pub off_twice : Handles → List Answered
-off_twice hs = push 7 Queued ∷ push 5 Queued ∷ push 0 Queued ∷ turn_off hs ∷ turn_off no_handle ∷ []
+off_twice hs = push 7 (Ok None) ∷ push 5 (Ok None) ∷ push 0 (Ok None) ∷ turn_off hs ∷ turn_off no_handle ∷ []
 
 pub record Counts : Type 0 where
   -- A call that its function's promise allows is a step, on every queue and with all that it can be called with.
@@ -244,14 +240,14 @@ pub record Counts : Type 0 where
   pub purge_steps : (q : PendingQueue) (i : ℕ) (r : Purged) → PurgedTo q i r → Step q (to_purge_iface i) (purge_iface r.handles) r.queue
   pub off_steps : (q : PendingQueue) (s : Slaac) (t : IfaceAddrs) (routes : Routes) (c : NeighborCache) (i : ℕ) (x : TurnedOff) → TurnedOffTo s t routes c q i x
       → Step q (to_turn_off s t routes c i) (turn_off x.handles) x.queue
-  pub list_steps : (q : PendingQueue) (n : ℕ) (r : Waiting) → WaitingAt q n r → Step q (to_list n) (at r) q
+  pub list_steps : (q : PendingQueue) (n : ℕ) (r : Option PendingPacket) → WaitingAt q n r → Step q (to_list n) (at r) q
   -- What it adds to the five, in their order, of any handle
-  pub push_adds : (h g : ℕ) (a : Push) → five h (push g a ∷ []) ≡ count_of h (taken g a) ∷ 0 ∷ count_of h (pushed_out a) ∷ 0 ∷ 0 ∷ []
-  pub release_adds : (h : ℕ) (a : Release) → five h (release a ∷ []) ≡ 0 ∷ count_of h (released_out a) ∷ 0 ∷ 0 ∷ 0 ∷ []
+  pub push_adds : (h g : ℕ) (a : Result (Option ℕ) Refusal) → five h (push g a ∷ []) ≡ count_of h (taken g a) ∷ 0 ∷ count_of h (pushed_out a) ∷ 0 ∷ 0 ∷ []
+  pub release_adds : (h : ℕ) (a : Result (Option ℕ) Refusal) → five h (release a ∷ []) ≡ 0 ∷ count_of h (released_out a) ∷ 0 ∷ 0 ∷ 0 ∷ []
   pub orphans_adds : (h : ℕ) (hs : Handles) → five h (purge_orphans hs ∷ []) ≡ 0 ∷ 0 ∷ 0 ∷ count_of h (handle_list hs) ∷ 0 ∷ []
   pub purge_adds : (h : ℕ) (hs : Handles) → five h (purge_iface hs ∷ []) ≡ 0 ∷ 0 ∷ 0 ∷ 0 ∷ count_of h (handle_list hs) ∷ []
   pub off_adds : (h : ℕ) (hs : Handles) → five h (turn_off hs ∷ []) ≡ 0 ∷ 0 ∷ 0 ∷ 0 ∷ count_of h (handle_list hs) ∷ []
-  pub list_adds : (h : ℕ) (a : Waiting) → five h (at a ∷ []) ≡ 0 ∷ 0 ∷ 0 ∷ 0 ∷ 0 ∷ []
+  pub list_adds : (h : ℕ) (a : Option PendingPacket) → five h (at a ∷ []) ≡ 0 ∷ 0 ∷ 0 ∷ 0 ∷ 0 ∷ []
   -- "Over any sequence of queue calls from empty, and for each handle value, the number of its pushes, refused ones aside, equals the times it was released,
   -- dropped as oldest, purged as orphan and purged with its interface, plus the times it still waits."; "This holds as well after SLAAC is turned off", which
   -- is one of the calls
@@ -279,9 +275,9 @@ pub record Counts : Type 0 where
       ∷ (0 ∷ 0 ∷ 0 ∷ 0 ∷ 0 ∷ [])
       ∷ []
   -- and by name
-  pub by_push : pushed 7 (push 7 Queued ∷ []) ≡ 1
-  pub by_release : released 7 (release (Handle 7) ∷ []) ≡ 1
-  pub by_overflow : dropped_as_oldest 7 (push 1 (Dropped 7) ∷ []) ≡ 1
+  pub by_push : pushed 7 (push 7 (Ok None) ∷ []) ≡ 1
+  pub by_release : released 7 (release (Ok (Some 7)) ∷ []) ≡ 1
+  pub by_overflow : dropped_as_oldest 7 (push 1 (Ok (Some 7)) ∷ []) ≡ 1
   pub by_orphans : purged_as_orphan 7 (purge_orphans (one_handle 7) ∷ []) ≡ 1
   pub by_purge : purged_with_iface 7 (purge_iface (one_handle 7) ∷ []) ≡ 1
   pub by_off : purged_with_iface 7 (turn_off (one_handle 7) ∷ []) ≡ 1

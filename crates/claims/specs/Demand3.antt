@@ -1,8 +1,7 @@
 -- Demand 3, as it is claimed: a field for each sentence, the sentence above it. `proofs/Demand3.antt` proves them all. Assumes nothing.
-use Rattle.std.specs.Prelude.{ℕ, suc, ◌+◌, ◌-◌, ◌≤◌, ◌<◌, ◌≡◌, false, cond, not, ◌||◌, List, [], ◌∷◌, ◌++◌, length, replicate, T}
+use Rattle.std.specs.Prelude.{ℕ, suc, ◌+◌, ◌-◌, ◌≤◌, ◌<◌, ◌≡◌, false, cond, not, ◌||◌, List, [], ◌∷◌, ◌++◌, length, replicate, T, Ok, Err}
 use Rattle.time.specs.declared.Instant.{Instant}
 use Rattle.wire.specs.declared.error.Refusal.{Refusal}
-use Rattle.wire.specs.declared.error.Check.TheVariants.{Fine, Refused as Fails}
 use Rattle.neighbor.specs.declared.State.{State}
 use Rattle.neighbor.specs.declared.State.TheVariants.{Started, Incomplete}
 use Rattle.neighbor.specs.NeighborRules.{Table, Key, entries_of}
@@ -50,26 +49,26 @@ Alone k (c ∷ cs) = (owns k c ≡ false) × Alone k cs
 -- a sweep that is taken, on a table where k is on its way with p probes sent, due at d
 pub record Sweeping (k : Key) (i : ℕ) (now : Instant) (t : Table) (p : ℕ) (d : Instant) : Type 0 where
   pub distinct : Distinct t
-  pub taken : check (sweep i now) ≡ Fine
+  pub taken : check (sweep i now) ≡ Ok tt
   pub under_way_lem : entries_of k t ≡ Incomplete p d ∷ []
 
 pub record Demand3 : Type 0 where
   -- document 01: "demands 2 and 3 mean tables these calls made": they hold each key at most once, and at most 16 entries
   pub made : (cs : List Call) → Distinct (table_after cs []) × (length (table_after cs []) ≤ 16)
   -- "Once started": a start of k leaves it started
-  pub starts : (k : Key) (t : Table) → Distinct t → check (start k) ≡ Fine → Gives k (start k) t [] (Started ∷ [])
+  pub starts : (k : Key) (t : Table) → Distinct t → check (start k) ≡ Ok tt → Gives k (start k) t [] (Started ∷ [])
   -- "until its address is filled by any call, started again, removed, cleared or evicted": no other call but a sweep changes or reports it
   pub stays : (k : Key) (c : Call) (t : Table) → Distinct t → owns k c ≡ false → is_sweep c ≡ false → T (not (evicts k c t))
       → Gives k c t [] (entries_of k t)
   -- document 01: "a refused sweep is none", nor is any other refused call
-  pub refusals : (c : Call) (t : Table) (why : Refusal) → check c ≡ Fails why → (answer c t ≡ refused why) × (next c t ≡ t)
+  pub refusals : (c : Call) (t : Table) (why : Refusal) → check c ≡ Err why → (answer c t ≡ refused why) × (next c t ≡ t)
   -- an advertisement that tells nothing of its sender leaves every entry; which do so says `OnCaches`: those that are refused, or come with
   -- SLAAC off, or without a unicast address
   pub unheard : (k : Key) (now : Instant) (t : Table) → next (advertise k now silence) t ≡ t
   -- document 01: "if an address went, the interface's neighbours .. are cleared"; if none did, none is (`OnCaches` says when)
   pub none_went : (i : ℕ) (t : Table) → next (turn_off i false) t ≡ t
   -- "the first sweep on any interface makes it due 1,000 ms later"
-  pub first : (k : Key) (i : ℕ) (now : Instant) (t : Table) → Distinct t → check (sweep i now) ≡ Fine → entries_of k t ≡ Started ∷ []
+  pub first : (k : Key) (i : ℕ) (now : Instant) (t : Table) → Distinct t → check (sweep i now) ≡ Ok tt → entries_of k t ≡ Started ∷ []
       → Gives k (sweep i now) t [] (Incomplete 1 (later now 1000) ∷ [])
   -- "Each later sweep of its own interface reports it exactly once if due, else not at all": before its time, or of another interface
   pub early : (k : Key) (i : ℕ) (now : Instant) (t : Table) (p : ℕ) (d : Instant) → Sweeping k i now t p d → now.0 < d.0
@@ -83,7 +82,7 @@ pub record Demand3 : Type 0 where
   pub third : (k : Key) (now : Instant) (t : Table) (p : ℕ) (d : Instant) → Sweeping k k.iface now t p d → d.0 ≤ now.0 → 3 ≤ p
       → Gives k (sweep k.iface now) t (failure ∷ []) []
   -- and so the failure comes 3,000 ms after that first sweep or later, in whatever order of time the sweeps between them came
-  pub no_sooner : (k : Key) (i j : ℕ) (begun now : Instant) (cs : List Call) (t : Table) → Distinct t → check (sweep i begun) ≡ Fine → entries_of k t ≡ Started ∷ []
+  pub no_sooner : (k : Key) (i j : ℕ) (begun now : Instant) (cs : List Call) (t : Table) → Distinct t → check (sweep i begun) ≡ Ok tt → entries_of k t ≡ Started ∷ []
       → Alone k cs → Kept k cs (next (sweep i begun) t) → reports_in k (answer (sweep j now) (table_after cs (next (sweep i begun) t))) ≡ failure ∷ []
       → begun.0 + 3000 ≤ now.0
   -- the three of them, over any run from a start on: what was reported, and what is left to report

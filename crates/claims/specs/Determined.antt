@@ -2,10 +2,9 @@
 -- answer satisfies it": that there is a first the function itself shows. A field for each promise that is a record, by the function that makes it; one
 -- that is an equation for the answer, and one for each thing lent, needs none. Exceptions are what an operating system answers: `next_line`, `emit`
 -- and `done` of streams, and `run` of runner (docs/PROMISES.md, "Exceptions"). Assumes nothing.
-use Rattle.std.specs.Prelude.{ℕ, ◌≡◌, Bool, List}
+use Rattle.std.specs.Prelude.{ℕ, ◌≡◌, Bool, List, Option}
 use Rattle.std.specs.Borrow.{Bor}
 use Rattle.time.specs.declared.Instant.{Instant}
-use Rattle.time.specs.declared.Deadline.{Deadline}
 use Rattle.time.specs.declared.Clock.{Clock}
 use Rattle.wire.specs.declared.ethernet.HardwareAddress.{HardwareAddress}
 use Rattle.wire.specs.declared.ipv6.Ipv6Addr.{Ipv6Addr}
@@ -35,12 +34,14 @@ use Rattle.lent.specs.LentRules.{ReportedTo, PolledBy}
 use Rattle.text.specs.Addresses.{MessageRead}
 use Rattle.text.specs.Fields.{Found}
 use Rattle.text.specs.Place.{Put}
+use Rattle.text.specs.declared.print.Text.{Text}
 use Rattle.lines.specs.EventLines.{ParsedTo}
 use Rattle.report.specs.AnswerLines.{Printed}
 use Rattle.mainloop.specs.declared.Card.{Card as LoopCard}
 use Rattle.mainloop.specs.declared.Inbox.{Inbox}
 use Rattle.mainloop.specs.declared.Woken.{Woken}
 use Rattle.mainloop.specs.LoopRules.{SettledTo, TurnedTo, RanTo}
+use Rattle.script.specs.declared.card.After.{After}
 use Rattle.script.specs.declared.card.Card.{Card}
 use Rattle.script.specs.declared.reading.Want.{Want}
 use Rattle.script.specs.CardRules.{Listed}
@@ -110,7 +111,7 @@ pub record Determined : Type 0 where
   pub settle : (card : LoopCard) (up : Bool) (hw : HardwareAddress) (buf : List ℕ) (now : Instant) → OneAnswerLeaving (SettledTo card up hw buf now)
   pub turn : (card : LoopCard) (woken : Woken) (received : List ℕ) (hw : HardwareAddress) (buf : List ℕ)
       → OneAnswerLeaving (TurnedTo card woken received hw buf)
-  pub run : (card : LoopCard) (wake : Deadline) (inbox : Inbox) (received : List ℕ) (hw : HardwareAddress) (buf : List ℕ) (budget : ℕ)
+  pub run : (card : LoopCard) (wake : Option Instant) (inbox : Inbox) (received : List ℕ) (hw : HardwareAddress) (buf : List ℕ) (budget : ℕ)
       → OneAnswerLeaving (RanTo card wake inbox received hw buf budget)
   -- text: a message read into its buffer, the first byte of a kind, a text put at a place of a buffer
   pub read_message : (field out : List ℕ) → OneAnswerLeaving (MessageRead field out)
@@ -120,5 +121,7 @@ pub record Determined : Type 0 where
   pub parse_event : (line message : List ℕ) → OneAnswerLeaving (ParsedTo line message)
   pub listing : (text : List ℕ) (most : ℕ) (out : List ℕ) (at : ℕ) → OneAnswerLeaving (Printed text most out at)
   pub read_line : (message : List ℕ) (want : Want) (line : List ℕ) → OneAnswerLeaving (SaidTo message want line)
-  pub step : (want : Want) (card : Card) (line out : List ℕ) (at : ℕ) → OneAnswerLeaving (StepTo want card line out at)
+  -- of a text that is lent, its bytes and its place: all that a program can read of it
+  pub step : (want : Want) (card : Card) (line : List ℕ) (out : Text) (r r' : After) (left left' : Text) → StepTo want card line out r left
+      → StepTo want card line out r' left' → (r ≡ r') × (left.buf.now ≡ left'.buf.now) × (left.at ≡ left'.at)
   pub list : (card : Card) (out : List ℕ) (at : ℕ) → OneAnswerLeaving (Listed card out at)

@@ -1,5 +1,5 @@
 -- "an address gone early": no SLAAC address and no default route leaves before its time. Assumes nothing.
-use Rattle.std.specs.Prelude.{ℕ, ◌≤◌, ◌<◌, ◌≡◌, Bool, true, false, List, [], ◌∷◌}
+use Rattle.std.specs.Prelude.{ℕ, ◌≤◌, ◌<◌, ◌≡◌, Bool, true, false, List, [], ◌∷◌, Ok}
 use Rattle.table.specs.Table.{any_of, first_of}
 use Rattle.time.specs.declared.Instant.{Instant}
 use Rattle.time.specs.declared.Duration.{Duration}
@@ -11,7 +11,6 @@ use Rattle.wire.specs.declared.ipv6.Ipv6Addr.{Ipv6Addr}
 use Rattle.wire.specs.declared.ipv6.Ipv6Cidr.{Ipv6Cidr}
 use Rattle.wire.specs.declared.ipv6.Formed.TheVariants.{Addr}
 use Rattle.wire.specs.declared.ethernet.HardwareAddress.{HardwareAddress}
-use Rattle.wire.specs.declared.error.Check.TheVariants.{Fine}
 use Rattle.wire.specs.Refusals.{time_check}
 use Rattle.wire.specs.Rfc2464.{formed_of}
 use Rattle.wire.specs.Rfc4291.{same_addr}
@@ -111,10 +110,10 @@ Before early spares off_elsewhere = Unit {0}
 
 -- a poll on interface i is taken: neither its time nor the interface is refused; an advertisement, if its message is not refused either
 abbrev pub TakesPoll : ℕ → Instant → Type 0
-TakesPoll i now = time_check now i ≡ Fine
+TakesPoll i now = time_check now i ≡ Ok tt
 
 abbrev pub Takes : ℕ → Ipv6Addr → List ℕ → Instant → Type 0
-Takes i source msg now = (time_check now i ≡ Fine) × (message_check source msg ≡ Fine)
+Takes i source msg now = (time_check now i ≡ Ok tt) × (message_check source msg ≡ Ok tt)
 
 -- Addresses
 

@@ -1,9 +1,8 @@
 -- Request 2026-09: "Show that clearing interface a and then b gives the same cache and queue as b and then a, that clearing twice is clearing once, and that
 -- purging orphans twice against one cache is purging once. Entries and packets of other interfaces keep their order. Refusals: 7 as now." Of what the calls'
 -- promises allow, of any cache, queue, routes and interface numbers. Assumes nothing.
-use Rattle.std.specs.Prelude.{ℕ, ◌≤◌, ◌<◌, ◌≡◌, Bool, true, false, List, [], ◌∷◌, map, replicate, eqb}
+use Rattle.std.specs.Prelude.{ℕ, ◌≤◌, ◌<◌, ◌≡◌, Bool, true, false, List, [], ◌∷◌, map, replicate, eqb, Ok, Err}
 use Rattle.table.specs.Kept.{InOrder}
-use Rattle.wire.specs.declared.error.Outcome.TheVariants.{Refused, Done}
 use Rattle.wire.specs.declared.error.Refusal.TheVariants.{NoSuchIface}
 use Rattle.neighbor.specs.declared.Entry.{Entry}
 use Rattle.neighbor.specs.declared.NeighborCache.{NeighborCache}
@@ -87,19 +86,19 @@ routes_with e f n = record { slots = e ∷ f ∷ replicate 6 no_route; len = n }
 
 -- what turning SLAAC off leaves and answers there
 abbrev pub off_with : Routes → NeighborCache → PendingQueue → ℕ → TurnedOff
-off_with r c q h = turned_off (fresh false) (clear_addrs with_address).addrs r c q (one_handle h) Done
+off_with r c q h = turned_off (fresh false) (clear_addrs with_address).addrs r c q (one_handle h) (Ok tt)
 
 pub record EitherOrder : Type 1 where
   -- "Refusals: 7 as now.", which is NoSuchIface (`number_of`); a refusal changes nothing, and hands nothing back
-  pub clear_done : (c : NeighborCache) (a : ℕ) (x : Changed) → a ≤ 3 → ClearTo c a x → x.outcome ≡ Done
-  pub clear_refused : (c : NeighborCache) (a : ℕ) (x : Changed) → 3 < a → ClearTo c a x → x ≡ record { cache = c; outcome = Refused NoSuchIface }
-  pub purge_done : (q : PendingQueue) (a : ℕ) (x : Purged) → a ≤ 3 → PurgedTo q a x → x.outcome ≡ Done
+  pub clear_done : (c : NeighborCache) (a : ℕ) (x : Changed) → a ≤ 3 → ClearTo c a x → x.outcome ≡ Ok tt
+  pub clear_refused : (c : NeighborCache) (a : ℕ) (x : Changed) → 3 < a → ClearTo c a x → x ≡ record { cache = c; outcome = Err NoSuchIface }
+  pub purge_done : (q : PendingQueue) (a : ℕ) (x : Purged) → a ≤ 3 → PurgedTo q a x → x.outcome ≡ Ok tt
   pub purge_refused : (q : PendingQueue) (a : ℕ) (x : Purged) → 3 < a → PurgedTo q a x
-      → x ≡ record { queue = q; handles = no_handle; outcome = Refused NoSuchIface }
+      → x ≡ record { queue = q; handles = no_handle; outcome = Err NoSuchIface }
   pub off_done : (r : Routes) (c : NeighborCache) (q : PendingQueue) (a : ℕ) (m : Own) (x : TurnedOff) → a ≤ 3 → TurnedOffTo m.slaac m.addrs r c q a x
-      → x.outcome ≡ Done
+      → x.outcome ≡ Ok tt
   pub off_refused : (r : Routes) (c : NeighborCache) (q : PendingQueue) (a : ℕ) (m : Own) (x : TurnedOff) → 3 < a → TurnedOffTo m.slaac m.addrs r c q a x
-      → x ≡ turned_off m.slaac m.addrs r c q no_handle (Refused NoSuchIface)
+      → x ≡ turned_off m.slaac m.addrs r c q no_handle (Err NoSuchIface)
   -- "clearing interface a and then b gives the same cache .. as b and then a", and each of the two calls has its outcome
   pub cache : (c : NeighborCache) (a b : ℕ) (x y u v : Changed) → Clears c a b x y → Clears c b a u v → Same y.cache v.cache
   pub cache_outcomes : (c : NeighborCache) (a b : ℕ) (x y u v : Changed) → Clears c a b x y → Clears c b a u v
@@ -119,10 +118,10 @@ pub record EitherOrder : Type 1 where
   pub queue_twice : (q : PendingQueue) (a : ℕ) (x y : Purged) → Purges q a a x y → y ≡ record { queue = x.queue; handles = no_handle; outcome = x.outcome }
   -- "purging orphans twice against one cache is purging once": that very queue, no handle, Done
   pub orphans_twice : (q : PendingQueue) (c : NeighborCache) (x y : Purged) → OrphansPurged q c x → OrphansPurged x.queue c y
-      → y ≡ record { queue = x.queue; handles = no_handle; outcome = Done }
+      → y ≡ record { queue = x.queue; handles = no_handle; outcome = Ok tt }
   -- against another it need not be: 7 waits on after a purge against a cache that resolves fe80::1, and comes back by one against a cache that does not know it
-  pub orphans_first : OrphansPurged one_waits resolving (record { queue = one_waits; handles = no_handle; outcome = Done })
-  pub orphans_anew : OrphansPurged one_waits noNeighbours (record { queue = none_waits; handles = one_handle 7; outcome = Done })
+  pub orphans_first : OrphansPurged one_waits resolving (record { queue = one_waits; handles = no_handle; outcome = Ok tt })
+  pub orphans_anew : OrphansPurged one_waits noNeighbours (record { queue = none_waits; handles = one_handle 7; outcome = Ok tt })
   -- "Entries and packets of other interfaces keep their order.": all of them together; none is lost or changed, and all of a go
   pub entries_order : (c : NeighborCache) (a : ℕ) (x : Changed) → a ≤ 3 → ClearTo c a x → KeepsOrder (entry_of a) (entries c) (entries x.cache)
   pub packets_order : (q : PendingQueue) (a : ℕ) (x : Purged) → a ≤ 3 → PurgedTo q a x

@@ -1,8 +1,7 @@
 -- Request 2026-01: "Forever never expires and adds no deadline; preferred forever is never above valid forever, and a finite valid lifetime with
 -- an infinite preferred one is still skipped." Assumes nothing.
-use Rattle.std.specs.Prelude.{ℕ, ◌≤◌, ◌<◌, ◌≡◌, true, false, [], ◌∷◌, ◌++◌, replicate}
+use Rattle.std.specs.Prelude.{ℕ, ◌≤◌, ◌<◌, ◌≡◌, true, false, [], ◌∷◌, ◌++◌, replicate, None}
 use Rattle.time.specs.declared.Instant.{Instant}
-use Rattle.time.specs.declared.Deadline.TheVariants.{None}
 use Rattle.time.specs.declared.Expiry.TheVariants.{Forever}
 use Rattle.time.specs.ClockRules.{idle}
 use Rattle.ndisc.specs.declared.ndiscoption.PrefixInformation.{PrefixInformation}

@@ -1,5 +1,5 @@
 -- Document 01, "Examples on both sides", the last as request 2026-02 has it: one claim, a field for each, of the specifications that the code is proved against. Assumes nothing.
-use Rattle.std.specs.Prelude.{ℕ, ◌≡◌, true, List, [], ◌∷◌, ◌++◌, replicate}
+use Rattle.std.specs.Prelude.{ℕ, ◌≡◌, true, List, [], ◌∷◌, ◌++◌, replicate, Ok}
 use Rattle.time.specs.declared.Expiry.TheVariants.{At}
 use Rattle.time.specs.ClockRules.{idle}
 use Rattle.wire.specs.declared.ipv6.Ipv6Addr.{Ipv6Addr}
@@ -139,7 +139,7 @@ start_and_sweeps =
 
 pub record Examples : Type 0 where
   -- "P1 no options: accepted."
-  pub P1 : (answer_to []).answer ≡ Done
+  pub P1 : (answer_to []).answer ≡ Ok Done
   -- "P2 7 bytes: 1."
   pub P2 : advert_number (answer_to (1 ∷ 1 ∷ replicate 5 0)).answer ≡ 1
   -- "P3 length 0: 1."
@@ -149,7 +149,7 @@ pub record Examples : Type 0 where
   pub p4_read : learns (offer network 3600 1800) ≡ entry network 1800000 3600000 ∷ []
   -- "P5 type 4, L = 5: 1; L = 6 read."
   pub P5 : advert_number (answer_to (4 ∷ 5 ∷ replicate 38 0)).answer ≡ 1
-  pub p5_read : (answer_to (4 ∷ 6 ∷ replicate 46 0)).answer ≡ Done
+  pub p5_read : (answer_to (4 ∷ 6 ∷ replicate 46 0)).answer ≡ Ok Done
   -- "P6 preferred 5 with valid 5 taken; 6 with 5 skipped."
   pub P6 : learns (offer network 5 5) ≡ entry network 5000 5000 ∷ []
   pub p6_skipped : learns (offer network 5 6) ≡ []
@@ -165,7 +165,7 @@ pub record Examples : Type 0 where
   pub p8_neighbors : entries ra.cache ≡ []
   -- "P9 the solicitation above.": 85007b2c000000000101020000000001
   pub P9 : sends (fresh true) addresses 0 ≡ 0x85 ∷ 0 ∷ 0x7b ∷ 0x2c ∷ 0 ∷ 0 ∷ 0 ∷ 0 ∷ 0x01 ∷ 0x01 ∷ 0x02 ∷ 0 ∷ 0 ∷ 0 ∷ 0 ∷ 0x01 ∷ []
-  pub p9_answer : up.answer ≡ Solicited
+  pub p9_answer : up.answer ≡ Ok Solicited
   -- "P11 start; sweeps at 0, 999, 1000, 1999, 2000, 3000: none, none, retransmit, none, retransmit, failed."
   pub P11 : answers start_and_sweeps []
       ≡ done

@@ -1,11 +1,10 @@
 -- Document 02, 2026-06, "Look at each neighbour once": what the calls for events of a sweep look at, how many calls they are, and what a sweep reports
 -- of it. Assumes nothing.
-use Rattle.std.specs.Prelude.{ℕ, suc, ◌+◌, ◌^◌, ◌≤◌, min, ◌≡◌, Bool, cond, List, [], ◌∷◌, ◌++◌, map, length, take}
+use Rattle.std.specs.Prelude.{ℕ, suc, ◌+◌, ◌^◌, ◌≤◌, min, ◌≡◌, Bool, cond, List, [], ◌∷◌, ◌++◌, map, length, take, Ok, Err}
 use Rattle.table.specs.First.{FirstAt, NoneFrom}
 use Rattle.time.specs.declared.Instant.{Instant}
 use Rattle.time.specs.declared.Clock.{Clock}
 use Rattle.time.specs.ClockRules.{idle}
-use Rattle.wire.specs.declared.error.Check.TheVariants.{Fine, Refused as Fails}
 use Rattle.wire.specs.declared.error.Refusal.{Refusal}
 use Rattle.neighbor.specs.declared.State.TheVariants.{Incomplete}
 use Rattle.neighbor.specs.declared.Entry.{Entry}
@@ -96,16 +95,16 @@ pub record Looks : Type 0 where
   -- Sweeps, of any cache
   --
   -- One that is taken reports as many as the cache has entries; "A count above its size reads as the size"
-  pub exactly : (c : NeighborCache) (k : Clock) (i n : ℕ) → Reports c k i n → sweep_check k i ≡ Fine → n ≡ length (entries c)
-  pub count : (c : NeighborCache) (k : Clock) (i n : ℕ) → Reports c k i n → sweep_check k i ≡ Fine → n ≡ min c.len (length c.slots)
+  pub exactly : (c : NeighborCache) (k : Clock) (i n : ℕ) → Reports c k i n → sweep_check k i ≡ Ok tt → n ≡ length (entries c)
+  pub count : (c : NeighborCache) (k : Clock) (i n : ℕ) → Reports c k i n → sweep_check k i ≡ Ok tt → n ≡ min c.len (length c.slots)
   -- "That number equals the steps of document 01's definition", and the calls are at most one more. That there are such calls says `Places`, `until_none`.
-  pub steps : (c : NeighborCache) (k : Clock) (i n : ℕ) → Reports c k i n → sweep_check k i ≡ Fine
+  pub steps : (c : NeighborCache) (k : Clock) (i n : ℕ) → Reports c k i n → sweep_check k i ≡ Ok tt
       → (vs : List ProbeEvent) (u es : Table) (calls : ℕ) → Probes c k i vs u es calls → (n ≡ length es) × (calls ≤ suc n)
   -- Each key of the cache is looked at as often as the cache has it.
   pub keys : (c : NeighborCache) (k : Clock) (i : ℕ) (vs : List ProbeEvent) (u es : Table) (calls : ℕ) → Probes c k i vs u es calls
       → (of : Key) → how_many (is_key of) es ≡ how_many (is_key of) (entries c)
   -- "Refused sweeps report 0."
-  pub refused : (c : NeighborCache) (k : Clock) (i n : ℕ) → Reports c k i n → (why : Refusal) → sweep_check k i ≡ Fails why → n ≡ 0
+  pub refused : (c : NeighborCache) (k : Clock) (i n : ℕ) → Reports c k i n → (why : Refusal) → sweep_check k i ≡ Err why → n ≡ 0
   -- Values
   --
   -- all sixteen fail: 16 looks in 17 calls

@@ -1,10 +1,9 @@
 -- Document 01, "Refusal numbers": "Checks go in the table's order." Assumes nothing.
-use Rattle.std.specs.Prelude.{ℕ, ◌≤◌, ◌≡◌, true, List, [], ◌∷◌, ◌++◌}
+use Rattle.std.specs.Prelude.{ℕ, ◌≤◌, ◌≡◌, true, List, [], ◌∷◌, ◌++◌, Err}
 use Rattle.time.specs.declared.Instant.{Instant}
 use Rattle.wire.specs.declared.ethernet.HardwareAddress.{HardwareAddress}
 use Rattle.wire.specs.declared.ipv6.Ipv6Addr.{Ipv6Addr}
 use Rattle.wire.specs.declared.error.Refusal.{Refusal}
-use Rattle.wire.specs.declared.error.Check.TheVariants.{Refused}
 use Rattle.wire.specs.declared.ipv6.Ipv6Cidr.{Ipv6Cidr}
 use Rattle.neighbor.specs.declared.NeighborCache.{NeighborCache}
 use Rattle.neighbor.specs.NeverRefused.{NeverRefused}
@@ -22,7 +21,7 @@ NoneAbove why (row ∷ rows) = (row.fails ≡ true → row_of why ≤ row_of row
 
 pub record Order : Type 0 where
   -- of a call whose rows go down the table, the refusal is the topmost of those that fail
-  pub topmost : (rows : List Row) → ascends rows ≡ true → (why : Refusal) → first_refusal rows ≡ Refused why → NoneAbove why rows
+  pub topmost : (rows : List Row) → ascends rows ≡ true → (why : Refusal) → first_refusal rows ≡ Err why → NoneAbove why rows
   -- and the rows of every call do: lookup and start
   pub lookup_start : (iface : ℕ) (addr : Ipv6Addr) → ascends (key_rows iface addr) ≡ true
   -- fill and insert

@@ -1,11 +1,10 @@
 -- "a neighbour entry pushed out with a report queued on it": what becomes of each packet that is pushed, whatever calls on the cache and the queue
 -- come. Assumes nothing.
-use Rattle.std.specs.Prelude.{ℕ, zero, suc, ◌+◌, ◌≤◌, ◌<◌, ◌≡◌, Bool, true, false, cond, ◌&&◌, List, [], ◌∷◌, ◌++◌, map, take, drop, length, get_or, eqb}
+use Rattle.wire.specs.declared.error.Refusal.{Refusal}
+use Rattle.std.specs.Prelude.{ℕ, zero, suc, ◌+◌, ◌≤◌, ◌<◌, ◌≡◌, Bool, true, false, cond, ◌&&◌, List, [], ◌∷◌, ◌++◌, map, take, drop, length, get_or, eqb, Result, Ok, Err}
 use Rattle.table.specs.Table.{at_first_is, any_of, first_of, kept, dropped}
 use Rattle.wire.specs.declared.ipv6.Ipv6Addr.{Ipv6Addr}
 use Rattle.wire.specs.declared.ethernet.HardwareAddress.{HardwareAddress}
-use Rattle.wire.specs.declared.error.Check.{Check}
-use Rattle.wire.specs.declared.error.Check.TheVariants.{Fine, Refused as Fails}
 use Rattle.wire.specs.Refusals.{iface_check}
 use Rattle.neighbor.specs.declared.State.{State}
 use Rattle.neighbor.specs.declared.State.TheVariants.{Stale}
@@ -163,9 +162,9 @@ cleared_by_is (turn_off i false) p = false
 cleared_by_is (turn_off i true) p = on_iface i p
 
 -- "A refusal returns its number and changes nothing."
-abbrev pub unless_refused : Check → List Numbered → Parted → Parted
-unless_refused (Fails why) ns x = record { stay = ns; leave = [] }
-unless_refused Fine ns x = x
+abbrev pub unless_refused : Result (Unit {0}) Refusal → List Numbered → Parted → Parted
+unless_refused (Err why) ns x = record { stay = ns; leave = [] }
+unless_refused (Ok tt) ns x = x
 
 -- who stays and who leaves, and the ledger after that
 abbrev pub parted : Move → Table → List Numbered → Parted
@@ -263,14 +262,14 @@ pub data AbsentOrStale : List State → Type 0 where
 
 pub record ByRelease (n : Numbered) (m : Move) (ns : List Numbered) : Type 0 where
   pub move : m ≡ release (key_of n.packet)
-  pub taken : iface_check n.packet.iface ≡ Fine
+  pub taken : iface_check n.packet.iface ≡ Ok tt
   pub oldest : Oldest (has_key (key_of n.packet)) n ns
 
 pub record ByOverflow (n : Numbered) (m : Move) (ns : List Numbered) : Type 0 where
   pub pushed : Key
   pub handle : ℕ
   pub move : m ≡ push pushed handle
-  pub taken : iface_check pushed.iface ≡ Fine
+  pub taken : iface_check pushed.iface ≡ Ok tt
   pub full : 8 ≤ length ns
   pub newer : List Numbered
   pub oldest : ns ≡ n ∷ newer
@@ -281,7 +280,7 @@ pub record ByOrphans (n : Numbered) (m : Move) (t : Table) : Type 0 where
 
 pub record ByPurge (n : Numbered) (m : Move) : Type 0 where
   pub move : m ≡ purge_iface n.packet.iface
-  pub taken : iface_check n.packet.iface ≡ Fine
+  pub taken : iface_check n.packet.iface ≡ Ok tt
 
 abbrev pub Reason : Way → Numbered → Move → Table → List Numbered → Type 0
 Reason by_release n m t ns = ByRelease n m ns

@@ -1,8 +1,7 @@
 -- The numbers and bits of document 01 up to the event program, and of requests 2026-02 and 2026-10, computed: a definition with another number, bit or case in it fails here or in
 -- `Examples`, `Traces`, `Lasting`, `Endless`, `Wake`, `Counts`, which compute values too. Assumes nothing.
-use Rattle.std.specs.Prelude.{ℕ, zero, suc, ◌+◌, ◌-◌, ◌*◌, ◌^◌, ◌≡◌, Bool, true, false, List, [], ◌∷◌, ◌++◌, map, replicate, take, drop, length}
+use Rattle.std.specs.Prelude.{ℕ, zero, suc, ◌+◌, ◌-◌, ◌*◌, ◌^◌, ◌≡◌, Bool, true, false, List, [], ◌∷◌, ◌++◌, map, replicate, take, drop, length, Some, None, Ok}
 use Rattle.time.specs.declared.Clock.{Clock}
-use Rattle.time.specs.declared.Deadline.TheVariants.{None, At}
 use Rattle.time.specs.declared.Expiry.TheVariants.{At as EndsAt, Forever}
 use Rattle.time.specs.ClockRules.{idle, asked_of, scheduled_of}
 use Rattle.time.specs.TimeRules.{add_of, seconds_of}
@@ -20,7 +19,6 @@ use Rattle.ndisc.specs.Rfc4861Options.{checked_of, data_of, prefix_at}
 use Rattle.ndisc.specs.Rfc4443Checksum.{words}
 use Rattle.ndisc.specs.Rfc4861Messages.{is_router_solicit}
 use Rattle.neighbor.specs.declared.Answer.TheVariants.{Found as Known, Pending, NotFound}
-use Rattle.neighbor.specs.declared.Got.TheVariants.{Nothing as NoEntry, Is as Shown}
 use Rattle.neighbor.specs.declared.NeighborState.TheVariants.{Incomplete as ListedIncomplete, Reachable as ListedReachable, Stale as ListedStale}
 use Rattle.neighbor.specs.declared.State.{State}
 use Rattle.neighbor.specs.declared.State.TheVariants.{Started, Incomplete, Reachable, Stale}
@@ -30,8 +28,6 @@ use Rattle.sweep.specs.SweepRules.{expire_clocks, sweep_table}
 use Rattle.sweep.specs.SweepCalls.{swept_in}
 use Rattle.pending.specs.QueueRules.{Queue, packet, orphaned, release_answer, release_list, push_answer, dropped_handles, on_iface}
 use Rattle.pending.specs.QueueCalls.{queue_room, packets, with_packets, empty as noPackets, blank as blankPacket}
-use Rattle.pending.specs.declared.Release.TheVariants.{Handle}
-use Rattle.pending.specs.declared.Push.TheVariants.{Queued, Dropped}
 use Rattle.iface.specs.declared.addr.AddrOrigin.TheVariants.{Manual}
 use Rattle.iface.specs.declared.addr.IfaceAddr.{IfaceAddr}
 use Rattle.iface.specs.declared.addr.IfaceAddrs.{IfaceAddrs}
@@ -75,7 +71,7 @@ halves hi lo = record { hi = hi; lo = lo }
 
 -- a clock at now that waits for a time
 abbrev pub waiting_for : ℕ → ℕ → Clock
-waiting_for now deadline = record { now = ms now; deadline = At (ms deadline) }
+waiting_for now deadline = record { now = ms now; deadline = Some (ms deadline) }
 
 -- Advertisements
 
@@ -363,7 +359,7 @@ pub record Pinned : Type 0 where
   pub above : number_for router (headed 135 0 0 0 0) ≡ 5
   pub coded : number_for router (headed 134 1 0 0 0) ≡ 5
   pub from_afar : number_for (beginning 0x2001) (headed 134 0 0 0 0) ≡ 6
-  pub off_first : (call_by (time_check (ms 0) 0) (fresh false) empty 0 (beginning 0x2001) [] (ms 0)).answer ≡ Off
+  pub off_first : (call_by (time_check (ms 0) 0) (fresh false) empty 0 (beginning 0x2001) [] (ms 0)).answer ≡ Ok Off
   -- "One is skipped if prefix length > 128, autonomous is clear, the prefix is link-local or multicast, or preferred > valid."
   pub on_link_alone : optioned 0x80 ≡ []
   pub autonomous : optioned 0x40 ≡ entry network 5000 9000 ∷ []
@@ -383,24 +379,24 @@ pub record Pinned : Type 0 where
   pub group_last : taught (link_layer_bytes 1 mac ++ link_layer_bytes 1 group) ≡ []
   pub target_alone : taught (link_layer_bytes 2 mac) ≡ []
   -- "It needs link up, a link-local address in the table"
-  pub link_down : (polls_with (fresh true) false addresses 16 0).polled.answer ≡ Quiet
-  pub no_link_local : (polls_with (fresh true) true empty_addrs 16 0).polled.answer ≡ Quiet
+  pub link_down : (polls_with (fresh true) false addresses 16 0).polled.answer ≡ Ok Quiet
+  pub no_link_local : (polls_with (fresh true) true empty_addrs 16 0).polled.answer ≡ Ok Quiet
   -- "(the first is the source)"
   pub first_source : sends (fresh true) (with_addrs empty_addrs (link_local ∷ manual_addr (record { address = router; prefix_len = 64 }) ∷ [])) 0 ≡ sends (fresh true) addresses 0
   -- "phase Discovering, one fewer left, retry 4,000 ms later, scheduled only if some are left": three of them
   pub first_sent : up.slaac.discovery ≡ record { phase = Discovering (ms 4000); num_solicitations = 2 }
-  pub retry_waits : (polls_with (fresh true) true addresses 16 0).clock.deadline ≡ At (ms 4000)
-  pub not_yet : (polls up.slaac addresses empty_routes 3999).answer ≡ Quiet
-  pub retry : second.answer ≡ Solicited
-  pub third_sent : third.answer ≡ Solicited
+  pub retry_waits : (polls_with (fresh true) true addresses 16 0).clock.deadline ≡ Some (ms 4000)
+  pub not_yet : (polls up.slaac addresses empty_routes 3999).answer ≡ Ok Quiet
+  pub retry : second.answer ≡ Ok Solicited
+  pub third_sent : third.answer ≡ Ok Solicited
   pub third_waits_not : (polls_with second.slaac true addresses 16 8000).clock.deadline ≡ None
-  pub no_fourth : (polls third.slaac addresses empty_routes 12000).answer ≡ Quiet
+  pub no_fourth : (polls third.slaac addresses empty_routes 12000).answer ≡ Ok Quiet
   -- "with the retry time expired (asked of the clock last)": not with the link down, and not with none left
-  pub retry_still_waits : (polls_with up.slaac true addresses 16 100).clock.deadline ≡ At (ms 4000)
+  pub retry_still_waits : (polls_with up.slaac true addresses 16 100).clock.deadline ≡ Some (ms 4000)
   pub down_waits_not : (polls_with up.slaac false addresses 16 100).clock.deadline ≡ None
   pub none_left_waits_not : (polls_with third.slaac true addresses 16 9000).clock.deadline ≡ None
   -- "A lent buffer under 16 bytes counts as sent, answers no room"
-  pub small : (polls_with (fresh true) true addresses 15 0).polled.answer ≡ TooSmall
+  pub small : (polls_with (fresh true) true addresses 15 0).polled.answer ≡ Ok TooSmall
   pub small_counts : (polls_with (fresh true) true addresses 15 0).polled.slaac.discovery ≡ up.slaac.discovery
   -- "and stays. Otherwise only its first 16 bytes change"; "With no solicitation to send, the buffer stays."
   pub small_stays : leaves_of (fresh true) true 15 0 ≡ replicate 15 7
@@ -418,13 +414,13 @@ pub record Pinned : Type 0 where
   pub on_anew : turned_on_is (fresh false) ≡ fresh true
   pub off_stays : restarted (fresh false) ≡ fresh false
   -- "the clock is first asked of each": the router's end, and where its lifetime is 0 the prefix's; "the request is cleared", and what expired leaves
-  pub router_waits : (polls_with ra.slaac true addresses 16 500).clock.deadline ≡ At (ms 1800500)
-  pub prefix_waits : (polls_with (hears (fresh true) (headed 134 0 0 0 0 ++ offers 1) 0).slaac false addresses 16 0).clock.deadline ≡ At (ms 5000)
+  pub router_waits : (polls_with ra.slaac true addresses 16 500).clock.deadline ≡ Some (ms 1800500)
+  pub prefix_waits : (polls_with (hears (fresh true) (headed 134 0 0 0 0 ++ offers 1) 0).slaac false addresses 16 0).clock.deadline ≡ Some (ms 5000)
   pub cleared : end.slaac.sync_required ≡ false
   pub prefix_leaves : prefixes_of (polls end.slaac end.addrs end.routes 3600500).slaac ≡ []
   pub router_leaves : routers_of (polls end.slaac end.addrs end.routes 1800500).slaac ≡ []
   -- the clock is asked of valid-until, and not of preferred
-  pub valid_waits : (polls_with (hears (fresh true) (headed 134 0 0 0 0 ++ prefix_option 0x40) 0).slaac false addresses 16 0).clock.deadline ≡ At (ms 9000)
+  pub valid_waits : (polls_with (hears (fresh true) (headed 134 0 0 0 0 ++ prefix_option 0x40) 0).slaac false addresses 16 0).clock.deadline ≡ Some (ms 9000)
   -- "expired prefixes and routers leave in order": so do the addresses, "later ones move down"
   pub others_in_order : prefixes_of first_over.slaac ≡ entry (net 2) 5000 5000 ∷ entry (net 3) 5000 5000 ∷ []
   pub moved_down : addrs_of first_over.addrs ≡ formed_in 2 ∷ formed_in 3 ∷ []
@@ -447,7 +443,7 @@ pub record Pinned : Type 0 where
   pub no_ninth_address : addrs_of (synced_with 8 7).addrs ≡ added 8
   pub eighth_route : routes_of (synced_with 7 7).routes ≡ added_routes 7 ++ (slaac_route 0 router (ms 1800500) ∷ [])
   pub no_ninth_route : routes_of (synced_with 7 8).routes ≡ added_routes 8
-  pub poll_off : (polls_with (fresh false) true addresses 16 0).polled.answer ≡ PollOff
+  pub poll_off : (polls_with (fresh false) true addresses 16 0).polled.answer ≡ Ok PollOff
   -- "Turning SLAAC off removes its addresses and routes; if an address went, the interface's neighbours and waiting packets are cleared"
   pub off_addresses : addrs_of (off_from end.addrs).addrs ≡ link_local ∷ []
   pub off_routes : routes_of (off_from end.addrs).routes ≡ []
@@ -463,13 +459,13 @@ pub record Pinned : Type 0 where
   pub off_each_route : clear_routes 0 (slaac_route 0 router (ms 5) ∷ slaac_route 1 router (ms 5) ∷ manual_route 0 network router ∷ slaac_route 0 (router_no 2) (ms 5) ∷ [])
       ≡ slaac_route 1 router (ms 5) ∷ manual_route 0 network router ∷ []
   -- "Reachable is Found, even past its time; Started and Incomplete are Pending; the rest NotFound."
-  pub lookup_each : answers lookups [] ≡ done ∷ looked Pending ∷ done ∷ swept 0 [] ∷ looked (Known hardware) ∷ swept 0 [] ∷ looked NotFound ∷ []
+  pub lookup_each : answers lookups [] ≡ done ∷ looked (Ok Pending) ∷ done ∷ swept 0 [] ∷ looked (Ok (Known hardware)) ∷ swept 0 [] ∷ looked (Ok NotFound) ∷ []
   pub lookup_incomplete : answers (lookup (neighbour 1) ∷ get (neighbour 1) ∷ []) (holding (Incomplete 2 (ms 9)))
-      ≡ looked Pending ∷ got (Shown (record { iface = 0; addr = (neighbour 1).addr; state = ListedIncomplete })) ∷ []
+      ≡ looked (Ok Pending) ∷ got (Ok (Some (record { iface = 0; addr = (neighbour 1).addr; state = ListedIncomplete }))) ∷ []
   -- "Fill puts Reachable for 60,000 ms; insert takes an expiry"; "removing or listing an absent key answers Nothing"
   pub filled : table_after (fill (neighbour 1) hardware (ms 5) ∷ []) [] ≡ holding (Reachable hardware (ms 60005))
   pub inserted : table_after (insert (neighbour 1) hardware (ms 5) ∷ []) [] ≡ holding (Reachable hardware (ms 5))
-  pub none_there : answers (get (neighbour 2) ∷ remove (neighbour 2) ∷ at 1 ∷ []) (holding Started) ≡ got NoEntry ∷ got NoEntry ∷ got NoEntry ∷ []
+  pub none_there : answers (get (neighbour 2) ∷ remove (neighbour 2) ∷ at 1 ∷ []) (holding Started) ≡ got (Ok None) ∷ got (Ok None) ∷ got (Ok None) ∷ []
   -- "Start puts Started, over an entry of that key too."; a new entry comes last
   pub over : table_after (start (neighbour 2) ∷ start (neighbour 4) ∷ []) (in_states 1 (Stale hardware ∷ Stale hardware ∷ Stale hardware ∷ []))
       ≡ in_states 1 (Stale hardware ∷ Started ∷ Stale hardware ∷ Started ∷ [])
@@ -485,16 +481,16 @@ pub record Pinned : Type 0 where
       ≡ entry_of (neighbour 3) (Incomplete 1 (ms 3)) ∷ entry_of (neighbour 2) (Stale hardware) ∷ []
   pub cleared_in_order : table_after (clear 0 ∷ []) (on_ifaces 1 (1 ∷ 0 ∷ 2 ∷ 0 ∷ 3 ∷ [])) ≡ on_ifaces 1 (1 ∷ []) ++ on_ifaces 3 (2 ∷ []) ++ on_ifaces 5 (3 ∷ [])
   -- "A listing shows Started as Incomplete."
-  pub listed : answers (get (neighbour 1) ∷ []) (holding Started) ≡ got (Shown (record { iface = 0; addr = (neighbour 1).addr; state = ListedIncomplete })) ∷ []
+  pub listed : answers (get (neighbour 1) ∷ []) (holding Started) ≡ got (Ok (Some (record { iface = 0; addr = (neighbour 1).addr; state = ListedIncomplete }))) ∷ []
   pub listed_reachable : answers (at 0 ∷ []) (holding (Reachable hardware (ms 9)))
-      ≡ got (Shown (record { iface = 0; addr = (neighbour 1).addr; state = ListedReachable hardware (ms 9) })) ∷ []
+      ≡ got (Ok (Some (record { iface = 0; addr = (neighbour 1).addr; state = ListedReachable hardware (ms 9) }))) ∷ []
   pub listed_stale : answers (remove (neighbour 1) ∷ []) (holding (Stale hardware))
-      ≡ got (Shown (record { iface = 0; addr = (neighbour 1).addr; state = ListedStale hardware })) ∷ []
+      ≡ got (Ok (Some (record { iface = 0; addr = (neighbour 1).addr; state = ListedStale hardware }))) ∷ []
   -- "Started becomes Incomplete with 1 probe, due now + 1,000, which is scheduled; each other Incomplete due time is asked of the clock"
   pub starts : (sweep_table 0 (ms 500) (holding Started)).table ≡ holding (Incomplete 1 (ms 1500))
-  pub start_waits : (expire_clocks (idle (ms 500)) (holding Started)).deadline ≡ At (ms 1500)
-  pub due_waits : (expire_clocks (idle (ms 500)) (holding (Incomplete 1 (ms 1000)))).deadline ≡ At (ms 1000)
-  pub expiry_waits : (expire_clocks (idle (ms 500)) (holding (Reachable hardware (ms 1000)))).deadline ≡ At (ms 1000)
+  pub start_waits : (expire_clocks (idle (ms 500)) (holding Started)).deadline ≡ Some (ms 1500)
+  pub due_waits : (expire_clocks (idle (ms 500)) (holding (Incomplete 1 (ms 1000)))).deadline ≡ Some (ms 1000)
+  pub expiry_waits : (expire_clocks (idle (ms 500)) (holding (Reachable hardware (ms 1000)))).deadline ≡ Some (ms 1000)
   -- what has come is not waited for, and the events "do not touch the clock"
   pub due_waits_not : (expire_clocks (idle (ms 1000)) (holding (Incomplete 1 (ms 1000)))).deadline ≡ None
   pub expiry_waits_not : (expire_clocks (idle (ms 1000)) (holding (Reachable hardware (ms 1000)))).deadline ≡ None
@@ -502,10 +498,10 @@ pub record Pinned : Type 0 where
   -- "Expiry pass, all interfaces"
   pub stale_elsewhere : (sweep_table 1 (ms 1000) (holding (Reachable hardware (ms 1000)))).table ≡ holding (Stale hardware)
   -- "waiting packets 8": the eighth is queued, "A push on a full queue drops the oldest and returns it."
-  pub eighth : push_answer queue_room (queued 7) ≡ Queued
-  pub ninth : push_answer queue_room (queued 8) ≡ Dropped 8
+  pub eighth : push_answer queue_room (queued 7) ≡ Ok None
+  pub ninth : push_answer queue_room (queued 8) ≡ Ok (Some 8)
   -- "Release takes the oldest of its key."
-  pub oldest : release_answer (neighbour 1) (packet (neighbour 2) 9 ∷ queued 2) ≡ Handle 2
+  pub oldest : release_answer (neighbour 1) (packet (neighbour 2) 9 ∷ queued 2) ≡ Ok (Some 2)
   pub oldest_goes : release_list (neighbour 1) (packet (neighbour 2) 9 ∷ queued 2) ≡ packet (neighbour 2) 9 ∷ queued 1
   -- "Purging orphans drops packets whose entry is absent or Stale": "in queue order"
   pub absent : orphaned [] (packet (neighbour 1) 7) ≡ true

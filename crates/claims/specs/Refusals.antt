@@ -1,7 +1,14 @@
 -- Demand 1: "Bad input is refused by number, and a refusal leaves tables and lent bytes as they were." Call by call, with the rows of document
 -- 01's table that the call can fail, from the top: it answers a refusal's number exactly if one of them fails, and then the first one's. A table
 -- that a call is given and does not give back it cannot change: states are values. Assumes nothing.
-use Rattle.std.specs.Prelude.{ℕ, ◌+◌, ◌<◌, ◌^◌, ◌≡◌, Bool, true, false, cond, not, ◌&&◌, List, [], ◌∷◌, ◌++◌, map, ◌⊎◌, length, drop, replicate, ltb}
+use Rattle.ndisc.specs.declared.ndisc.RouterAdvert.{RouterAdvert}
+use Rattle.neighbor.specs.declared.Neighbor.{Neighbor}
+use Rattle.pending.specs.declared.PendingPacket.{PendingPacket}
+use Rattle.iface.specs.declared.addr.IfaceAddr.{IfaceAddr}
+use Rattle.iface.specs.declared.route.Route.{Route}
+use Rattle.slaac.specs.declared.Prefix.{Prefix}
+use Rattle.slaac.specs.declared.Router.{Router}
+use Rattle.std.specs.Prelude.{ℕ, ◌+◌, ◌<◌, ◌^◌, ◌≡◌, Bool, true, false, cond, not, ◌&&◌, List, [], ◌∷◌, ◌++◌, map, ◌⊎◌, length, drop, replicate, ltb, Result, Ok, Option}
 use Rattle.time.specs.declared.Instant.{Instant}
 use Rattle.time.specs.declared.Clock.{Clock}
 use Rattle.wire.specs.declared.ethernet.HardwareAddress.{HardwareAddress}
@@ -10,14 +17,10 @@ use Rattle.wire.specs.declared.ipv6.Ipv6Cidr.{Ipv6Cidr}
 use Rattle.wire.specs.declared.ipv6.Formed.{Formed}
 use Rattle.wire.specs.declared.error.Refusal.{Refusal}
 use Rattle.wire.specs.declared.error.Refusal.TheVariants.{Malformed, NotUnicast, TooLate, NoRoom, NotAdvertisement, NotLinkLocal, NoSuchIface, Full, Duplicate, PrefixTooLong}
-use Rattle.wire.specs.declared.error.Check.{Check}
 use Rattle.wire.specs.Refusals.{Row, number_of, check_number, outcome_number, first_number, Tested, iface_rows, time_rows, key_rows, fill_rows}
 use Rattle.wire.specs.Rfc2464.{Forms, formed_number}
 use Rattle.ndisc.specs.declared.ndiscoption.Checked.{Checked}
-use Rattle.ndisc.specs.declared.ndiscoption.Written.{Written}
-use Rattle.ndisc.specs.declared.ndiscoption.Walk.{Walk}
 use Rattle.ndisc.specs.declared.ndiscoption.Next.{Next}
-use Rattle.ndisc.specs.declared.ndisc.Advert.{Advert}
 use Rattle.ndisc.specs.declared.ndisc.Solicited.{Solicited}
 use Rattle.ndisc.specs.Answers.{checked_number, written_number, walk_number, next_number, advert_number as headerNumber, solicited_number}
 use Rattle.ndisc.specs.Rfc4861Options.{malformed}
@@ -26,10 +29,9 @@ use Rattle.ndisc.specs.OptionWalk.{Walks, Steps, malformed_option}
 use Rattle.ndisc.specs.Rfc4861Messages.{Adverts, Solicits, not_advertisement}
 use Rattle.neighbor.specs.declared.NeighborCache.{NeighborCache}
 use Rattle.neighbor.specs.declared.Answer.{Answer}
-use Rattle.neighbor.specs.declared.Got.{Got}
 use Rattle.neighbor.specs.declared.Changed.{Changed}
 use Rattle.neighbor.specs.declared.Removed.{Removed}
-use Rattle.neighbor.specs.Answers.{answer_number, got_number_is}
+use Rattle.neighbor.specs.Answers.{answer_number, got_number_is, listed_number}
 use Rattle.neighbor.specs.CacheCalls.{LookedUp, StartTo, InsertTo, FillTo, ClearTo, GotBy, ListedAt, RemovedTo}
 use Rattle.sweep.specs.declared.Events.{Events}
 use Rattle.sweep.specs.declared.Swept.{Swept}
@@ -38,22 +40,16 @@ use Rattle.pending.specs.declared.PendingQueue.{PendingQueue}
 use Rattle.pending.specs.declared.Pushed.{Pushed}
 use Rattle.pending.specs.declared.Released.{Released}
 use Rattle.pending.specs.declared.Purged.{Purged}
-use Rattle.pending.specs.declared.Waiting.{Waiting}
 use Rattle.pending.specs.QueueCalls.{push_number, pushed_out, release_number, released_out, waiting_number, PushedTo, ReleasedTo, OrphansPurged, PurgedTo, WaitingAt}
 use Rattle.iface.specs.declared.addr.IfaceAddrs.{IfaceAddrs}
 use Rattle.iface.specs.declared.addr.Added.{Added}
-use Rattle.iface.specs.declared.addr.Source.{Source}
-use Rattle.iface.specs.declared.addr.AddrAt.{AddrAt}
 use Rattle.iface.specs.declared.route.Routes.{Routes}
 use Rattle.iface.specs.declared.route.AddedRoute.{AddedRoute}
-use Rattle.iface.specs.declared.route.RouteAt.{RouteAt}
 use Rattle.iface.specs.Answers.{source_number, addr_at_number, route_at_number}
 use Rattle.iface.specs.AddressRules.{addrs_of, manual_addr, no_addr, addr_rows, AddedTo, LocalOf, AddrListed}
 use Rattle.iface.specs.RouteRules.{routes_of, route_rows, AddedRouteTo, RouteListed}
 use Rattle.slaac.specs.declared.Slaac.{Slaac}
 use Rattle.slaac.specs.declared.Changed.{Changed as Turned}
-use Rattle.slaac.specs.declared.PrefixAt.{PrefixAt}
-use Rattle.slaac.specs.declared.RouterAt.{RouterAt}
 use Rattle.slaac.specs.LearnedRules.{prefix_at_number, router_at_number, PrefixListed, RouterListed, unspecified}
 use Rattle.slaac.specs.DiscoveryRules.{RestartedTo, TurnedOnTo}
 use Rattle.autoconf.specs.declared.AdvertAnswer.TheVariants.{Off as NotHeard}
@@ -178,10 +174,10 @@ pub record Refusals : Type 0 where
   pub each : map first_number failing ≡ 3 ∷ 7 ∷ 5 ∷ 6 ∷ 2 ∷ 1 ∷ 14 ∷ 9 ∷ 8 ∷ 4 ∷ []
   pub none : map first_number passing ≡ 0 ∷ 0 ∷ 0 ∷ 0 ∷ 0 ∷ []
   -- a test of a call's arguments alone
-  pub check : (rows : List Row) (r : Check) → Tested rows r → Refuses rows (check_number r) NothingToChange
+  pub check : (rows : List Row) (r : Result (Unit {0}) Refusal) → Tested rows r → Refuses rows (check_number r) NothingToChange
   -- The neighbour cache
 
-  pub lookup : (c : NeighborCache) (iface : ℕ) (addr : Ipv6Addr) (r : Answer) → LookedUp c iface addr r
+  pub lookup : (c : NeighborCache) (iface : ℕ) (addr : Ipv6Addr) (r : Result Answer Refusal) → LookedUp c iface addr r
       → Refuses (key_rows iface addr) (answer_number r) NothingToChange
   pub start_resolution : (c : NeighborCache) (iface : ℕ) (addr : Ipv6Addr) (r : Changed) → StartTo c iface addr r
       → Refuses (key_rows iface addr) (outcome_number r.outcome) (r.cache ≡ c)
@@ -189,7 +185,7 @@ pub record Refusals : Type 0 where
       → Refuses (fill_rows now iface addr hw) (outcome_number r.outcome) (r.cache ≡ c)
   pub insert : (c : NeighborCache) (iface : ℕ) (addr : Ipv6Addr) (hw : HardwareAddress) (expires : Instant) (r : Changed)
       → InsertTo c iface addr hw expires r → Refuses (fill_rows expires iface addr hw) (outcome_number r.outcome) (r.cache ≡ c)
-  pub get : (c : NeighborCache) (iface : ℕ) (addr : Ipv6Addr) (r : Got) → GotBy c iface addr r → Refuses (iface_rows iface) (got_number_is r) NothingToChange
+  pub get : (c : NeighborCache) (iface : ℕ) (addr : Ipv6Addr) (r : Result (Option Neighbor) Refusal) → GotBy c iface addr r → Refuses (iface_rows iface) (got_number_is r) NothingToChange
   pub remove : (c : NeighborCache) (iface : ℕ) (addr : Ipv6Addr) (r : Removed) → RemovedTo c iface addr r
       → Refuses (iface_rows iface) (got_number_is r.taken) (r.cache ≡ c)
   pub clear_iface : (c : NeighborCache) (iface : ℕ) (r : Changed) → ClearTo c iface r
@@ -231,22 +227,22 @@ pub record Refusals : Type 0 where
       → Refuses (time_rows k.now iface) (poll_number p.answer) (Unpolled s t r k buf p k' buf')
   -- "With SLAAC off this call and the poll answer Off, after 3 and 7 and before 5, and do nothing.": Off is no refusal, and leaves all as it came too
   pub advertisement_off : (s : Slaac) (c : NeighborCache) (iface : ℕ) (source : Ipv6Addr) (msg : List ℕ) (now : Instant) (r : Advertised)
-      → AdvertisedTo s c iface source msg now r → s.on ≡ false → NoneFails (time_rows now iface) → (r.answer ≡ NotHeard) × Unheard s c r
+      → AdvertisedTo s c iface source msg now r → s.on ≡ false → NoneFails (time_rows now iface) → (r.answer ≡ Ok NotHeard) × Unheard s c r
   pub poll_at_off : (s : Slaac) (t : IfaceAddrs) (r : Routes) (iface : ℕ) (up : Bool) (hw : HardwareAddress) (buf : List ℕ) (k : Clock) (p : PolledAt)
       (buf' : List ℕ) → PolledTo s t r iface up hw buf k p buf' → s.on ≡ false → NoneFails (time_rows k.now iface)
-      → (p.polled.answer ≡ Off) × Unpolled s t r k buf p.polled p.clock buf'
+      → (p.polled.answer ≡ Ok Off) × Unpolled s t r k buf p.polled p.clock buf'
   pub poll_off : (s : Slaac) (t : IfaceAddrs) (r : Routes) (iface : ℕ) (up : Bool) (hw : HardwareAddress) (buf : List ℕ) (k : Clock) (p : Polled)
       (buf' : List ℕ) (k' : Clock) → PolledBy s t r iface up hw buf k p buf' k' → s.on ≡ false → NoneFails (time_rows k.now iface)
-      → (p.answer ≡ Off) × Unpolled s t r k buf p k' buf'
+      → (p.answer ≡ Ok Off) × Unpolled s t r k buf p k' buf'
   -- Messages and options
 
-  pub router_advert : (msg : List ℕ) (r : Advert) → Adverts msg r → Refuses (not_advertisement msg ∷ []) (headerNumber r) NothingToChange
+  pub router_advert : (msg : List ℕ) (r : Result RouterAdvert Refusal) → Adverts msg r → Refuses (not_advertisement msg ∷ []) (headerNumber r) NothingToChange
   pub check_option : (option : List ℕ) (r : Checked) → Checks option r → Refuses (malformed_row (malformed option) ∷ []) (checked_number r) NothingToChange
-  pub check_options : (msg : List ℕ) (from : ℕ) (r : Walk) → Walks msg from r → Refuses (malformed_option msg from ∷ []) (walk_number r) NothingToChange
+  pub check_options : (msg : List ℕ) (from : ℕ) (r : Option ℕ) → Walks msg from r → Refuses (malformed_option msg from ∷ []) (walk_number r) NothingToChange
   pub next_option : (msg : List ℕ) (at : ℕ) (r : Next) → Steps msg at r
       → Refuses (malformed_row (ltb at (length msg) && malformed (drop at msg)) ∷ []) (next_number r) NothingToChange
   -- the writers of options: no byte of the message changes
-  pub write : (msg : List ℕ) (at : ℕ) (bs : List ℕ) (r : Written) (msg' : List ℕ) → Wrote msg at bs r msg'
+  pub write : (msg : List ℕ) (at : ℕ) (bs : List ℕ) (r : Result (Unit {0}) Refusal) (msg' : List ℕ) → Wrote msg at bs r msg'
       → Refuses (write_rows msg at bs) (written_number r) (msg' ≡ msg)
   -- a solicitation: "answers no room (no refusal) and stays"
   pub write_solicit : (buf : List ℕ) (src : Ipv6Addr) (hw : HardwareAddress) (r : Solicited) (buf' : List ℕ) → Solicits buf src hw r buf'
@@ -254,11 +250,11 @@ pub record Refusals : Type 0 where
   -- Calls that refuse nothing
 
   pub purge_orphans : (q : PendingQueue) (c : NeighborCache) (r : Purged) → OrphansPurged q c r → outcome_number r.outcome ≡ 0
-  pub neighbour_at : (c : NeighborCache) (index : ℕ) (r : Got) → ListedAt c index r → got_number_is r ≡ 0
-  pub packet_at : (q : PendingQueue) (index : ℕ) (r : Waiting) → WaitingAt q index r → waiting_number r ≡ 0
-  pub address_at : (t : IfaceAddrs) (index : ℕ) (r : AddrAt) → AddrListed t index r → addr_at_number r ≡ 0
-  pub route_at : (t : Routes) (index : ℕ) (r : RouteAt) → RouteListed t index r → route_at_number r ≡ 0
-  pub prefix_at : (s : Slaac) (index : ℕ) (r : PrefixAt) → PrefixListed s index r → prefix_at_number r ≡ 0
-  pub router_at : (s : Slaac) (index : ℕ) (r : RouterAt) → RouterListed s index r → router_at_number r ≡ 0
-  pub link_local : (t : IfaceAddrs) (r : Source) → LocalOf t r → source_number r ≡ 0
+  pub neighbour_at : (c : NeighborCache) (index : ℕ) (r : Option Neighbor) → ListedAt c index r → listed_number r ≡ 0
+  pub packet_at : (q : PendingQueue) (index : ℕ) (r : Option PendingPacket) → WaitingAt q index r → waiting_number r ≡ 0
+  pub address_at : (t : IfaceAddrs) (index : ℕ) (r : Option IfaceAddr) → AddrListed t index r → addr_at_number r ≡ 0
+  pub route_at : (t : Routes) (index : ℕ) (r : Option Route) → RouteListed t index r → route_at_number r ≡ 0
+  pub prefix_at : (s : Slaac) (index : ℕ) (r : Option Prefix) → PrefixListed s index r → prefix_at_number r ≡ 0
+  pub router_at : (s : Slaac) (index : ℕ) (r : Option Router) → RouterListed s index r → router_at_number r ≡ 0
+  pub link_local : (t : IfaceAddrs) (r : Option Ipv6Addr) → LocalOf t r → source_number r ≡ 0
   pub from_link_prefix : (hw : HardwareAddress) (c : Ipv6Cidr) (r : Formed) → Forms hw c r → formed_number r ≡ 0

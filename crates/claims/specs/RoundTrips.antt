@@ -1,5 +1,6 @@
 -- What goes out comes back: addresses as bytes, options in a message, a solicitation at its receiver, and what is printed. Assumes nothing.
-use Rattle.std.specs.Prelude.{ℕ, ◌+◌, ◌≤◌, ◌<◌, ◌^◌, ◌≡◌, true, List, ◌∷◌, ◌++◌, length, take, drop}
+use Rattle.wire.specs.declared.error.Refusal.{Refusal}
+use Rattle.std.specs.Prelude.{ℕ, ◌+◌, ◌≤◌, ◌<◌, ◌^◌, ◌≡◌, true, List, ◌∷◌, ◌++◌, length, take, drop, Some, Result, Ok}
 use Rattle.wire.specs.RoundTrips.{Bytes, RoundTrips as Addresses, FormedBack}
 use Rattle.wire.specs.Rfc2464.{hardware_bytes}
 use Rattle.wire.specs.Rfc4291.{address_bytes, all_routers}
@@ -14,20 +15,14 @@ use Rattle.ndisc.specs.declared.ndiscoption.Checked.TheVariants.{Well}
 use Rattle.ndisc.specs.declared.ndiscoption.NdiscOption.{NdiscOption}
 use Rattle.ndisc.specs.declared.ndiscoption.NdiscOption.TheVariants.{SourceLinkLayerAddr, TargetLinkLayerAddr, PrefixInformation as Prefix, Mtu}
 use Rattle.ndisc.specs.declared.ndiscoption.PrefixInformation.{PrefixInformation}
-use Rattle.ndisc.specs.declared.ndiscoption.Written.{Written}
-use Rattle.ndisc.specs.declared.ndiscoption.Written.TheVariants.{Done}
 use Rattle.text.specs.Addresses.{address_of, hardware_of, message_of}
 use Rattle.text.specs.Decimal.{number_of, decimal}
 use Rattle.text.specs.Fields.{Field, fields, index_of}
 use Rattle.text.specs.Hex.{hexed, unhexed}
-use Rattle.text.specs.declared.address.Address.TheVariants.{Value as Addr}
-use Rattle.text.specs.declared.address.Hardware.TheVariants.{Value as Hw}
-use Rattle.text.specs.declared.address.Message.TheVariants.{Bytes as Message}
-use Rattle.text.specs.declared.number.Number.TheVariants.{Value as Num}
 
 -- written at any place of any message, these bytes are checked there, and read as the option o of n units
 abbrev pub ReadBack : List ℕ → NdiscOption → ℕ → Type 0
-ReadBack bs o n = (msg : List ℕ) (at : ℕ) (msg' : List ℕ) → Wrote msg at bs Done msg' → checked_of (drop at msg') ≡ Well o n
+ReadBack bs o n = (msg : List ℕ) (at : ℕ) (msg' : List ℕ) → Wrote msg at bs (Ok tt) msg' → checked_of (drop at msg') ≡ Well o n
 
 -- a field has no space in it
 abbrev pub NoSpace : Field → Type 0
@@ -45,23 +40,23 @@ pub record RoundTrips : Type 0 where
   pub prefix : (p : PrefixInformation) → ReadBack (prefix_bytes p) (Prefix (masked p)) 4
   pub mtu : (n : ℕ) → ReadBack (mtu_bytes n) (Mtu n) 1
   -- the bits past its length are written as they are given: bytes 16 to 31 are the prefix's
-  pub prefix_as_given : (p : PrefixInformation) (msg : List ℕ) (at : ℕ) (msg' : List ℕ) → Wrote msg at (prefix_bytes p) Done msg'
+  pub prefix_as_given : (p : PrefixInformation) (msg : List ℕ) (at : ℕ) (msg' : List ℕ) → Wrote msg at (prefix_bytes p) (Ok tt) msg'
       → take 16 (drop 16 (drop at msg')) ≡ address_bytes p.prefix
   -- "no byte outside it changes", whatever a writer answers
-  pub before : (msg : List ℕ) (at : ℕ) (bs : List ℕ) (r : Written) (msg' : List ℕ) → Wrote msg at bs r msg' → take at msg' ≡ take at msg
-  pub after : (msg : List ℕ) (at : ℕ) (bs : List ℕ) (r : Written) (msg' : List ℕ) → Wrote msg at bs r msg'
+  pub before : (msg : List ℕ) (at : ℕ) (bs : List ℕ) (r : Result (Unit {0}) Refusal) (msg' : List ℕ) → Wrote msg at bs r msg' → take at msg' ≡ take at msg
+  pub after : (msg : List ℕ) (at : ℕ) (bs : List ℕ) (r : Result (Unit {0}) Refusal) (msg' : List ℕ) → Wrote msg at bs r msg'
       → drop (at + length bs) msg' ≡ drop (at + length bs) msg
-  pub size : (msg : List ℕ) (at : ℕ) (bs : List ℕ) (r : Written) (msg' : List ℕ) → Wrote msg at bs r msg' → length msg' ≡ length msg
+  pub size : (msg : List ℕ) (at : ℕ) (bs : List ℕ) (r : Result (Unit {0}) Refusal) (msg' : List ℕ) → Wrote msg at bs r msg' → length msg' ≡ length msg
   -- a receiver's check of a solicitation that was written succeeds, and its option is the sender's hardware address
   pub solicitation : (buf : List ℕ) (src : Ipv6Addr) (hw : HardwareAddress) (buf' : List ℕ) → Solicits buf src hw Sent buf'
       → accepted (address_bytes src) all_routers (take 16 buf') ≡ true
   pub sender : (buf : List ℕ) (src : Ipv6Addr) (hw : HardwareAddress) (buf' : List ℕ) → Solicits buf src hw Sent buf'
       → checked_of (drop 8 (take 16 buf')) ≡ Well (SourceLinkLayerAddr hw) 1
   -- what is printed reads back
-  pub number : (n : ℕ) → n < 2 ^ 64 → number_of (decimal n) ≡ Num n
-  pub address : (a : Ipv6Addr) → a.hi < 2 ^ 64 → a.lo < 2 ^ 64 → address_of (hexed (address_bytes a)) ≡ Addr a
-  pub hardware : (a : HardwareAddress) → a.hi < 2 ^ 16 → a.lo < 2 ^ 32 → hardware_of (hexed (hardware_bytes a)) ≡ Hw a
-  pub message : (room : ℕ) (bs : List ℕ) → Bytes bs → 0 < length bs → length bs ≤ room → message_of room (hexed bs) ≡ Message (length bs)
+  pub number : (n : ℕ) → n < 2 ^ 64 → number_of (decimal n) ≡ Some n
+  pub address : (a : Ipv6Addr) → a.hi < 2 ^ 64 → a.lo < 2 ^ 64 → address_of (hexed (address_bytes a)) ≡ Some a
+  pub hardware : (a : HardwareAddress) → a.hi < 2 ^ 16 → a.lo < 2 ^ 32 → hardware_of (hexed (hardware_bytes a)) ≡ Some a
+  pub message : (room : ℕ) (bs : List ℕ) → Bytes bs → 0 < length bs → length bs ≤ room → message_of room (hexed bs) ≡ Some (length bs)
   pub message_bytes : (bs : List ℕ) → Bytes bs → unhexed (hexed bs) ≡ bs
   -- and a line parts into the fields that were printed: at each space, of which a number and digits have none
   pub parted : (s rest : List ℕ) → NoSpace s → fields (s ++ (32 ∷ rest)) ≡ s ∷ fields rest

@@ -1,20 +1,19 @@
 -- Request 2026-09: what "the same cache and queue" means, and that no call tells apart what is the same; who reads `slots` past the count himself may.
 -- Assumes nothing.
-use Rattle.std.specs.Prelude.{ℕ, ◌+◌, ◌≡◌, Bool, List, [], ◌∷◌, take, replicate}
+use Rattle.wire.specs.declared.error.Refusal.{Refusal}
+use Rattle.neighbor.specs.declared.Neighbor.{Neighbor}
+use Rattle.iface.specs.declared.route.Route.{Route}
+use Rattle.std.specs.Prelude.{ℕ, ◌+◌, ◌≡◌, Bool, List, [], ◌∷◌, take, replicate, Option, Some, None, Result, Ok}
 use Rattle.time.specs.declared.Instant.{Instant}
 use Rattle.time.specs.declared.Clock.{Clock}
-use Rattle.time.specs.declared.Deadline.{Deadline}
 use Rattle.wire.specs.declared.ipv6.Ipv6Addr.{Ipv6Addr}
 use Rattle.wire.specs.declared.ipv6.Ipv6Cidr.{Ipv6Cidr}
 use Rattle.wire.specs.declared.ethernet.HardwareAddress.{HardwareAddress}
-use Rattle.wire.specs.declared.error.Outcome.{Outcome}
-use Rattle.wire.specs.declared.error.Outcome.TheVariants.{Done}
 use Rattle.neighbor.specs.declared.State.TheVariants.{Started}
 use Rattle.neighbor.specs.declared.Entry.{Entry}
 use Rattle.neighbor.specs.declared.NeighborCache.{NeighborCache}
 use Rattle.neighbor.specs.declared.Answer.{Answer}
 use Rattle.neighbor.specs.declared.Answer.TheVariants.{Pending, NotFound}
-use Rattle.neighbor.specs.declared.Got.{Got}
 use Rattle.neighbor.specs.declared.Changed.{Changed}
 use Rattle.neighbor.specs.declared.Removed.{Removed}
 use Rattle.neighbor.specs.NeighborRules.{entry}
@@ -27,20 +26,14 @@ use Rattle.lent.specs.LentRules.{ReportedTo, PolledBy}
 use Rattle.pending.specs.declared.PendingPacket.{PendingPacket}
 use Rattle.pending.specs.declared.PendingQueue.{PendingQueue}
 use Rattle.pending.specs.declared.Handles.{Handles}
-use Rattle.pending.specs.declared.Push.{Push}
-use Rattle.pending.specs.declared.Push.TheVariants.{Queued}
 use Rattle.pending.specs.declared.Pushed.{Pushed}
-use Rattle.pending.specs.declared.Release.{Release}
 use Rattle.pending.specs.declared.Released.{Released}
 use Rattle.pending.specs.declared.Purged.{Purged}
-use Rattle.pending.specs.declared.Waiting.{Waiting}
-use Rattle.pending.specs.declared.Waiting.TheVariants.{Is}
 use Rattle.pending.specs.QueueRules.{packet}
 use Rattle.pending.specs.QueueCalls.{blank as blankPacket, PushedTo, ReleasedTo, OrphansPurged, PurgedTo, WaitingAt}
 use Rattle.iface.specs.declared.addr.IfaceAddrs.{IfaceAddrs}
 use Rattle.iface.specs.declared.route.Routes.{Routes}
 use Rattle.iface.specs.declared.route.AddedRoute.{AddedRoute}
-use Rattle.iface.specs.declared.route.RouteAt.{RouteAt}
 use Rattle.iface.specs.RouteRules.{empty_routes, AddedRouteTo, RouteListed}
 use Rattle.slaac.specs.declared.Slaac.{Slaac}
 use Rattle.autoconf.specs.declared.AdvertAnswer.{AdvertAnswer}
@@ -103,7 +96,7 @@ abbrev pub both_packets : PendingQueue
 both_packets = queue_with (packet_on 0) (packet_on 1) 2
 
 abbrev pub hands_one : PendingQueue → ℕ → Purged
-hands_one q h = record { queue = q; handles = one_handle h; outcome = Done }
+hands_one q h = record { queue = q; handles = one_handle h; outcome = Ok tt }
 
 pub record NotTheSlots : Type 0 where
   -- clearing 0 and then 1 leaves the second entry in both slots, and 1 and then 0 leaves both as they were
@@ -163,26 +156,26 @@ pub data Call : Type 0 where
   to_take : Slaac → IfaceAddrs → Input → List ℕ → Instant → Call
   to_settle : Slaac → IfaceAddrs → Bool → HardwareAddress → List ℕ → Instant → Call
   to_turn : Slaac → IfaceAddrs → Woken → List ℕ → HardwareAddress → List ℕ → Call
-  to_run : Slaac → IfaceAddrs → Deadline → Inbox → List ℕ → HardwareAddress → List ℕ → ℕ → Call
+  to_run : Slaac → IfaceAddrs → Option Instant → Inbox → List ℕ → HardwareAddress → List ℕ → ℕ → Call
 
 -- its answer: all that it returns and leaves besides these
 pub data Returned : Type 0 where
-  found : Answer → Returned
-  gave_neighbor : Got → Returned
-  ended : Outcome → Returned
-  swept : Events → ℕ → Outcome → Clock → Returned
-  pushed : Push → Returned
-  released : Release → Returned
-  purged : Handles → Outcome → Returned
-  gave_packet : Waiting → Returned
-  gave_route : RouteAt → Returned
-  heard : Slaac → AdvertAnswer → Returned
-  polled : Slaac → IfaceAddrs → PollAnswer → List ℕ → Clock → Returned
-  off : Slaac → IfaceAddrs → Handles → Outcome → Returned
+  found : Result Answer Refusal → Returned
+  gave_neighbor : Result (Option Neighbor) Refusal → Returned
+  ended : Result (Unit {0}) Refusal → Returned
+  swept : Events → ℕ → Result (Unit {0}) Refusal → Clock → Returned
+  pushed : Result (Option ℕ) Refusal → Returned
+  released : Result (Option ℕ) Refusal → Returned
+  purged : Handles → Result (Unit {0}) Refusal → Returned
+  gave_packet : Option PendingPacket → Returned
+  gave_route : Option Route → Returned
+  heard : Slaac → Result AdvertAnswer Refusal → Returned
+  polled : Slaac → IfaceAddrs → Result PollAnswer Refusal → List ℕ → Clock → Returned
+  off : Slaac → IfaceAddrs → Handles → Result (Unit {0}) Refusal → Returned
   took : Slaac → IfaceAddrs → Action → Handles → Returned
-  settled : Slaac → IfaceAddrs → PollAnswer → Events → Handles → Deadline → List ℕ → Returned
-  turned : Slaac → IfaceAddrs → Report → Deadline → List ℕ → Returned
-  ran : Slaac → IfaceAddrs → Reports → Deadline → List ℕ → Returned
+  settled : Slaac → IfaceAddrs → Result PollAnswer Refusal → Events → Handles → Option Instant → List ℕ → Returned
+  turned : Slaac → IfaceAddrs → Report → Option Instant → List ℕ → Returned
+  ran : Slaac → IfaceAddrs → Reports → Option Instant → List ℕ → Returned
 
 abbrev pub cache_now : Held → NeighborCache → Held
 cache_now h c = record { cache = c; queue = h.queue; routes = h.routes }
@@ -202,14 +195,14 @@ held_by_is x = record { cache = x.cache; queue = x.queue; routes = x.routes }
 
 -- one call, with an answer that its function's promise allows, and what is held after it; sweeps and polls with the clock lent, and by value
 pub data Step : Held → Call → Returned → Held → Type 0 where
-  looks_up : (h : Held) (i : ℕ) (a : Ipv6Addr) (r : Answer) → LookedUp h.cache i a r → Step h (to_lookup i a) (found r) h
+  looks_up : (h : Held) (i : ℕ) (a : Ipv6Addr) (r : Result Answer Refusal) → LookedUp h.cache i a r → Step h (to_lookup i a) (found r) h
   starts : (h : Held) (i : ℕ) (a : Ipv6Addr) (r : Changed) → StartTo h.cache i a r → Step h (to_start i a) (ended r.outcome) (cache_now h r.cache)
   fills : (h : Held) (i : ℕ) (a : Ipv6Addr) (hw : HardwareAddress) (now : Instant) (r : Changed) → FillTo h.cache i a hw now r
       → Step h (to_fill i a hw now) (ended r.outcome) (cache_now h r.cache)
   inserts : (h : Held) (i : ℕ) (a : Ipv6Addr) (hw : HardwareAddress) (expires : Instant) (r : Changed) → InsertTo h.cache i a hw expires r
       → Step h (to_insert i a hw expires) (ended r.outcome) (cache_now h r.cache)
-  gets : (h : Held) (i : ℕ) (a : Ipv6Addr) (r : Got) → GotBy h.cache i a r → Step h (to_get i a) (gave_neighbor r) h
-  lists_neighbors : (h : Held) (n : ℕ) (r : Got) → ListedAt h.cache n r → Step h (to_list_neighbor n) (gave_neighbor r) h
+  gets : (h : Held) (i : ℕ) (a : Ipv6Addr) (r : Result (Option Neighbor) Refusal) → GotBy h.cache i a r → Step h (to_get i a) (gave_neighbor r) h
+  lists_neighbors : (h : Held) (n : ℕ) (r : Option Neighbor) → ListedAt h.cache n r → Step h (to_list_neighbor n) (gave_neighbor (Ok r)) h
   removes : (h : Held) (i : ℕ) (a : Ipv6Addr) (r : Removed) → RemovedTo h.cache i a r → Step h (to_remove i a) (gave_neighbor r.taken) (cache_now h r.cache)
   clears : (h : Held) (i : ℕ) (r : Changed) → ClearTo h.cache i r → Step h (to_clear i) (ended r.outcome) (cache_now h r.cache)
   sweeps : (h : Held) (k k' : Clock) (i : ℕ) (r : Reported) → ReportedTo h.cache k i r k'
@@ -223,10 +216,10 @@ pub data Step : Held → Call → Returned → Held → Type 0 where
   purges_orphans : (h : Held) (r : Purged) → OrphansPurged h.queue h.cache r
       → Step h to_purge_orphans (purged r.handles r.outcome) (queue_now h r.queue)
   purges_iface : (h : Held) (i : ℕ) (r : Purged) → PurgedTo h.queue i r → Step h (to_purge_iface i) (purged r.handles r.outcome) (queue_now h r.queue)
-  lists_packets : (h : Held) (n : ℕ) (r : Waiting) → WaitingAt h.queue n r → Step h (to_list_packet n) (gave_packet r) h
+  lists_packets : (h : Held) (n : ℕ) (r : Option PendingPacket) → WaitingAt h.queue n r → Step h (to_list_packet n) (gave_packet r) h
   adds_route : (h : Held) (i : ℕ) (to : Ipv6Cidr) (via : Ipv6Addr) (r : AddedRoute) → AddedRouteTo h.routes i to via r
       → Step h (to_add_route i to via) (ended r.outcome) (routes_now h r.routes)
-  lists_routes : (h : Held) (n : ℕ) (r : RouteAt) → RouteListed h.routes n r → Step h (to_list_route n) (gave_route r) h
+  lists_routes : (h : Held) (n : ℕ) (r : Option Route) → RouteListed h.routes n r → Step h (to_list_route n) (gave_route r) h
   hears : (h : Held) (s : Slaac) (i : ℕ) (source : Ipv6Addr) (msg : List ℕ) (now : Instant) (r : Advertised) → AdvertisedTo s h.cache i source msg now r
       → Step h (to_advertise s i source msg now) (heard r.slaac r.answer) (cache_now h r.cache)
   polls : (h : Held) (s : Slaac) (t : IfaceAddrs) (i : ℕ) (up : Bool) (hw : HardwareAddress) (buf buf' : List ℕ) (k k' : Clock) (p : Polled)
@@ -245,7 +238,7 @@ pub data Step : Held → Call → Returned → Held → Type 0 where
   turns : (h : Held) (s : Slaac) (t : IfaceAddrs) (w : Woken) (received : List ℕ) (hw : HardwareAddress) (buf buf' : List ℕ) (r : Turned)
       → TurnedTo (card_of h s t) w received hw buf r buf'
       → Step h (to_turn s t w received hw buf) (turned r.card.slaac r.card.addrs r.report r.wake buf') (held_by_is r.card)
-  runs : (h : Held) (s : Slaac) (t : IfaceAddrs) (wake : Deadline) (inbox : Inbox) (received : List ℕ) (hw : HardwareAddress) (buf buf' : List ℕ) (budget : ℕ) (r : Ran)
+  runs : (h : Held) (s : Slaac) (t : IfaceAddrs) (wake : Option Instant) (inbox : Inbox) (received : List ℕ) (hw : HardwareAddress) (buf buf' : List ℕ) (budget : ℕ) (r : Ran)
       → RanTo (card_of h s t) wake inbox received hw buf budget r buf'
       → Step h (to_run s t wake inbox received hw buf budget) (ran r.card.slaac r.card.addrs r.reports r.wake buf') (held_by_is r.card)
 
@@ -269,13 +262,13 @@ told =
 
 abbrev pub telling : List Returned
 telling =
-    ended Done
-    ∷ found Pending
-    ∷ pushed Queued
-    ∷ gave_packet (Is (packet (node_on 0 1) 7))
-    ∷ ended Done
-    ∷ found NotFound
-    ∷ purged (one_handle 7) Done
+    ended (Ok tt)
+    ∷ found (Ok Pending)
+    ∷ pushed (Ok None)
+    ∷ gave_packet (Some (packet (node_on 0 1) 7))
+    ∷ ended (Ok tt)
+    ∷ found (Ok NotFound)
+    ∷ purged (one_handle 7) (Ok tt)
     ∷ []
 
 -- the empty routes, this cache and this queue
@@ -328,14 +321,14 @@ pub record AlikeSettled (s t : Settled) : Type 0 where
 
 pub record NoCallTells : Type 0 where
   -- Each call on what is the same: its answer is the same, and what it leaves is the same.
-  pub lookup_same : (c d : NeighborCache) (i : ℕ) (a : Ipv6Addr) (r s : Answer) → Same c d → LookedUp c i a r → LookedUp d i a s → r ≡ s
+  pub lookup_same : (c d : NeighborCache) (i : ℕ) (a : Ipv6Addr) (r s : Result Answer Refusal) → Same c d → LookedUp c i a r → LookedUp d i a s → r ≡ s
   pub start_same : (c d : NeighborCache) (i : ℕ) (a : Ipv6Addr) (r s : Changed) → Same c d → StartTo c i a r → StartTo d i a s → AlikeChanged r s
   pub fill_same : (c d : NeighborCache) (i : ℕ) (a : Ipv6Addr) (hw : HardwareAddress) (now : Instant) (r s : Changed) → Same c d
       → FillTo c i a hw now r → FillTo d i a hw now s → AlikeChanged r s
   pub insert_same : (c d : NeighborCache) (i : ℕ) (a : Ipv6Addr) (hw : HardwareAddress) (expires : Instant) (r s : Changed) → Same c d
       → InsertTo c i a hw expires r → InsertTo d i a hw expires s → AlikeChanged r s
-  pub get_same : (c d : NeighborCache) (i : ℕ) (a : Ipv6Addr) (r s : Got) → Same c d → GotBy c i a r → GotBy d i a s → r ≡ s
-  pub at_same : (c d : NeighborCache) (n : ℕ) (r s : Got) → Same c d → ListedAt c n r → ListedAt d n s → r ≡ s
+  pub get_same : (c d : NeighborCache) (i : ℕ) (a : Ipv6Addr) (r s : Result (Option Neighbor) Refusal) → Same c d → GotBy c i a r → GotBy d i a s → r ≡ s
+  pub at_same : (c d : NeighborCache) (n : ℕ) (r s : Option Neighbor) → Same c d → ListedAt c n r → ListedAt d n s → r ≡ s
   pub remove_same : (c d : NeighborCache) (i : ℕ) (a : Ipv6Addr) (r s : Removed) → Same c d → RemovedTo c i a r → RemovedTo d i a s
       → (r.taken ≡ s.taken) × Same r.cache s.cache
   pub clear_same : (c d : NeighborCache) (i : ℕ) (r s : Changed) → Same c d → ClearTo c i r → ClearTo d i s → AlikeChanged r s
@@ -349,10 +342,10 @@ pub record NoCallTells : Type 0 where
   pub orphans_same : (p q : PendingQueue) (c d : NeighborCache) (r s : Purged) → SameQueue p q → Same c d → OrphansPurged p c r → OrphansPurged q d s
       → AlikePurged r s
   pub purge_same : (p q : PendingQueue) (i : ℕ) (r s : Purged) → SameQueue p q → PurgedTo p i r → PurgedTo q i s → AlikePurged r s
-  pub packet_same : (p q : PendingQueue) (n : ℕ) (r s : Waiting) → SameQueue p q → WaitingAt p n r → WaitingAt q n s → r ≡ s
+  pub packet_same : (p q : PendingQueue) (n : ℕ) (r s : Option PendingPacket) → SameQueue p q → WaitingAt p n r → WaitingAt q n s → r ≡ s
   pub add_route_same : (t u : Routes) (i : ℕ) (to : Ipv6Cidr) (via : Ipv6Addr) (r s : AddedRoute) → SameRoutes t u → AddedRouteTo t i to via r
       → AddedRouteTo u i to via s → (r.outcome ≡ s.outcome) × SameRoutes r.routes s.routes
-  pub route_same : (t u : Routes) (n : ℕ) (r s : RouteAt) → SameRoutes t u → RouteListed t n r → RouteListed u n s → r ≡ s
+  pub route_same : (t u : Routes) (n : ℕ) (r s : Option Route) → SameRoutes t u → RouteListed t n r → RouteListed u n s → r ≡ s
   pub advertise_same : (c d : NeighborCache) (s : Slaac) (i : ℕ) (source : Ipv6Addr) (msg : List ℕ) (now : Instant) (x y : Advertised) → Same c d
       → AdvertisedTo s c i source msg now x → AdvertisedTo s d i source msg now y
       → (x.slaac ≡ y.slaac) × (x.answer ≡ y.answer) × Same x.cache y.cache
@@ -372,7 +365,7 @@ pub record NoCallTells : Type 0 where
   pub turn_same : (x y : Card) (w : Woken) (received : List ℕ) (hw : HardwareAddress) (buf buf' buf'' : List ℕ) (t u : Turned) → SameCard x y
       → TurnedTo x w received hw buf t buf' → TurnedTo y w received hw buf u buf''
       → SameCard t.card u.card × (t.report ≡ u.report) × (t.wake ≡ u.wake) × (buf' ≡ buf'')
-  pub run_same : (x y : Card) (wake : Deadline) (inbox : Inbox) (received : List ℕ) (hw : HardwareAddress) (buf buf' buf'' : List ℕ) (budget : ℕ) (r s : Ran)
+  pub run_same : (x y : Card) (wake : Option Instant) (inbox : Inbox) (received : List ℕ) (hw : HardwareAddress) (buf buf' buf'' : List ℕ) (budget : ℕ) (r s : Ran)
       → SameCard x y → RanTo x wake inbox received hw buf budget r buf' → RanTo y wake inbox received hw buf budget s buf''
       → SameCard r.card s.card × (r.reports ≡ s.reports) × (r.wake ≡ s.wake) × (buf' ≡ buf'')
   -- And so any calls, one after the other.

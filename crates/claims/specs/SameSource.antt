@@ -1,15 +1,12 @@
 -- The source that solicitations are sent from stays the same whatever SLAAC does, so a card that sleeps need not look at it. Assumes nothing.
-use Rattle.std.specs.Prelude.{ℕ, ◌≡◌, Bool, true, false, List}
+use Rattle.std.specs.Prelude.{ℕ, ◌≡◌, Bool, true, false, List, Ok, Option, Some}
 use Rattle.table.specs.Table.{any_of}
 use Rattle.time.specs.declared.Instant.{Instant}
 use Rattle.time.specs.declared.Clock.{Clock}
-use Rattle.wire.specs.declared.error.Check.TheVariants.{Fine}
 use Rattle.wire.specs.declared.ethernet.HardwareAddress.{HardwareAddress}
 use Rattle.wire.specs.declared.ipv6.Ipv6Addr.{Ipv6Addr}
 use Rattle.wire.specs.Refusals.{time_check}
 use Rattle.wire.specs.Rfc4291.{is_link_local}
-use Rattle.iface.specs.declared.addr.Source.{Source}
-use Rattle.iface.specs.declared.addr.Source.TheVariants.{From}
 use Rattle.iface.specs.declared.addr.IfaceAddrs.{IfaceAddrs}
 use Rattle.iface.specs.declared.route.Routes.{Routes}
 use Rattle.iface.specs.AddressRules.{addrs_of, is_from_slaac, is_local, first_local}
@@ -37,7 +34,7 @@ pub record NoneLocal (x : Host) : Type 0 where
   pub addresses : All (λ e. is_from_slaac e ≡ true → is_local e ≡ false) (addrs_of x.addrs)
 
 -- "a link-local address in the table (the first is the source)"
-abbrev pub source_in : Host → Source
+abbrev pub source_in : Host → Option Ipv6Addr
 source_in x = first_local (addrs_of x.addrs)
 
 abbrev pub host_with : Slaac → IfaceAddrs → Routes → Host
@@ -57,9 +54,9 @@ pub record SameSource : Type 0 where
   pub same_ever : (i : ℕ) (hw : HardwareAddress) (x y : Host) (cs : List HostCall) → Run i hw x cs y → NoneLocal x → All (λ c. c ≡ add_addr → ⊥) cs
       → source_in y ≡ source_in x
   -- and where there is a source, neither does that.
-  pub stays : (i : ℕ) (hw : HardwareAddress) (x y : Host) (c : HostCall) → Step i hw x c y → NoneLocal x → (a : Ipv6Addr) → source_in x ≡ From a → source_in y ≡ From a
-  pub stays_ever : (i : ℕ) (hw : HardwareAddress) (x y : Host) (cs : List HostCall) → Run i hw x cs y → NoneLocal x → (a : Ipv6Addr) → source_in x ≡ From a
-      → source_in y ≡ From a
+  pub stays : (i : ℕ) (hw : HardwareAddress) (x y : Host) (c : HostCall) → Step i hw x c y → NoneLocal x → (a : Ipv6Addr) → source_in x ≡ Some a → source_in y ≡ Some a
+  pub stays_ever : (i : ℕ) (hw : HardwareAddress) (x y : Host) (cs : List HostCall) → Run i hw x cs y → NoneLocal x → (a : Ipv6Addr) → source_in x ≡ Some a
+      → source_in y ≡ Some a
   -- What `WakePoll` asks for: with the link as it was, a poll leaves the source that it had.
   pub polls : (i : ℕ) (up : Bool) (hw : HardwareAddress) (s : Slaac) (t : IfaceAddrs) (r : Routes) (buf : List ℕ) (k : Clock) (p : Polled) (buf' : List ℕ) (k' : Clock)
       → Poll i up hw s t r buf k p buf' k' → NoneLocal (host_with s t r) → sender_in up p.addrs ≡ sender_in up t
@@ -70,10 +67,10 @@ pub record SameSource : Type 0 where
       → NoneLocal (host_of x) → NoneLocal (host_of r.card) × (source_in (host_of r.card) ≡ source_in (host_of x))
   -- So with the link as it was it sleeps until `wake` and misses nothing (`Sleep`), and nothing is to be looked at before.
   pub asleep : (x : Card) (up : Bool) (hw : HardwareAddress) (buf : List ℕ) (now : Instant) (r : Settled) (buf' : List ℕ) → SettledTo x up hw buf now r buf'
-      → time_check now 0 ≡ Fine → OnOne x → x.slaac.on ≡ true → NoneLocal (host_of x)
+      → time_check now 0 ≡ Ok tt → OnOne x → x.slaac.on ≡ true → NoneLocal (host_of x)
       → (hw2 : HardwareAddress) (buf2 : List ℕ) (next : Instant) (r2 : Settled) (buf2' : List ℕ) → SettledTo r.card up hw2 buf2 next r2 buf2'
-      → time_check next 0 ≡ Fine → Asleep r.wake next
-      → (r2 ≡ still r.card Quiet r.wake) × (buf2' ≡ buf2)
+      → time_check next 0 ≡ Ok tt → Asleep r.wake next
+      → (r2 ≡ still r.card (Ok Quiet) r.wake) × (buf2' ≡ buf2)
   -- The host that document 01's event file ends with, which has a prefix and an address of SLAAC's, is such a one, and has a source.
   pub file_none : NoneLocal end_host
-  pub file_source : source_in end_host ≡ From link_local.cidr.address
+  pub file_source : source_in end_host ≡ Some link_local.cidr.address

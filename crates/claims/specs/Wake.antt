@@ -1,13 +1,10 @@
 -- A card that sleeps until the clock's deadline misses nothing of its neighbours: when that is so, when not, and which deadline it then has.
 -- Assumes nothing.
-use Rattle.std.specs.Prelude.{ℕ, ◌≤◌, ◌<◌, ◌^◌, ◌≡◌, List, [], ◌∷◌, ◌++◌}
+use Rattle.std.specs.Prelude.{ℕ, ◌≤◌, ◌<◌, ◌^◌, ◌≡◌, List, [], ◌∷◌, ◌++◌, Option, Some, None, Ok}
 use Rattle.time.specs.declared.Instant.{Instant}
-use Rattle.time.specs.declared.Deadline.{Deadline}
-use Rattle.time.specs.declared.Deadline.TheVariants.{None, At}
 use Rattle.time.specs.declared.Clock.{Clock}
 use Rattle.time.specs.ClockRules.{idle}
 use Rattle.time.specs.Forward.{NotLater}
-use Rattle.wire.specs.declared.error.Check.TheVariants.{Fine}
 use Rattle.wire.specs.Refusals.{key_check, time_check}
 use Rattle.neighbor.specs.declared.State.{State}
 use Rattle.neighbor.specs.declared.State.TheVariants.{Started, Incomplete, Reachable, Stale}
@@ -25,9 +22,9 @@ use Rattle.claims.specs.Traces.{ms, neighbour}
 use Rattle.claims.specs.Clocks.{Sweep}
 
 -- a time before the deadline; where there is none, every time
-abbrev pub Asleep : Deadline → Instant → Type 0
+abbrev pub Asleep : Option Instant → Instant → Type 0
 Asleep None now = Unit {0}
-Asleep (At d) now = now.0 < d.0
+Asleep (Some d) now = now.0 < d.0
 
 -- Entries
 
@@ -65,14 +62,14 @@ times_of [] = []
 times_of (e ∷ t) = waits_for e.state ++ times_of t
 
 -- the time that a clock has for a deadline before it is lent
-abbrev pub already : Deadline → List Instant
+abbrev pub already : Option Instant → List Instant
 already None = []
-already (At t) = t ∷ []
+already (Some t) = t ∷ []
 
 -- the deadline is one of the times, and none of them is before it; or there is no time, and no deadline
-abbrev pub IsEarliest : Deadline → List Instant → Type 0
+abbrev pub IsEarliest : Option Instant → List Instant → Type 0
 IsEarliest None times = times ≡ []
-IsEarliest (At d) times = Member d times × All (λ t. d.0 ≤ t.0) times
+IsEarliest (Some d) times = Member d times × All (λ t. d.0 ≤ t.0) times
 
 -- Sweeps of caches
 
@@ -85,7 +82,7 @@ pub data Sweeps : NeighborCache → Clock → List ℕ → NeighborCache → Clo
 -- a round: every interface that has neighbours is swept at the clock's time, and then one interface, any, once more on the same clock
 pub record Round (c : NeighborCache) (k : Clock) (is : List ℕ) (j : ℕ) (d : NeighborCache) (k' : Clock) : Type 0 where
   pub all : All (λ e. Member e.iface is) (entries c)
-  pub taken : All (λ i. time_check k.now i ≡ Fine) (j ∷ is)
+  pub taken : All (λ i. time_check k.now i ≡ Ok tt) (j ∷ is)
   -- the cache and the clock before the last sweep
   pub cache : NeighborCache
   pub clock : Clock
@@ -123,18 +120,18 @@ pub record Wake : Type 0 where
   pub sends_again : sweep_table 0 (ms 1000) overdue ≡ record { events = Retransmit (neighbour 1).addr ∷ []; table = entry (neighbour 1) (Incomplete 2 (ms 2000)) ∷ [] }
   pub oversleeps : (expire_clocks (idle (ms 1000)) overdue).deadline ≡ None
   -- a second sweep at the same time finds it
-  pub wakes : (expire_clocks (idle (ms 1000)) (sweep_table 0 (ms 1000) overdue).table).deadline ≡ At (ms 2000)
+  pub wakes : (expire_clocks (idle (ms 1000)) (sweep_table 0 (ms 1000) overdue).table).deadline ≡ Some (ms 2000)
   -- the same as calls, from the start on
-  pub waits_first : at0.clock.deadline ≡ At (ms 1000)
+  pub waits_first : at0.clock.deadline ≡ Some (ms 1000)
   pub silent_first : event_list at0.events ≡ []
   pub sends_second : event_list at1000.events ≡ Retransmit (neighbour 1).addr ∷ []
   pub sleeps_for_ever : at1000.clock.deadline ≡ None
-  pub wakes_again : once_more_is.clock.deadline ≡ At (ms 2000)
+  pub wakes_again : once_more_is.clock.deadline ≡ Some (ms 2000)
   pub silent_last : event_list once_more_is.events ≡ []
   -- that is a round, at 1,000
   pub a_round : Round at0.cache (idle (ms 1000)) (0 ∷ []) 0 once_more_is.cache once_more_is.clock
   -- There is only one earliest deadline of given times.
-  pub one_earliest : (d e : Deadline) (times : List Instant) → IsEarliest d times → IsEarliest e times → d ≡ e
+  pub one_earliest : (d e : Option Instant) (times : List Instant) → IsEarliest d times → IsEarliest e times → d ≡ e
   -- So a card ends with a round: the deadline is then exactly the earliest due time or expiry of the cache, or none where the cache has none;
   pub exact : (c d : NeighborCache) (now : Instant) (k' : Clock) (is : List ℕ) (j : ℕ)
       → Round c (idle now) is j d k'
@@ -161,14 +158,14 @@ pub record Wake : Type 0 where
   -- and a single one, if it is taken, has the exact deadline again: on a new clock the same as the round had on a new clock.
   pub exact_asleep : (c d : NeighborCache) (k k' : Clock) (is : List ℕ) (j : ℕ) → Round c k is j d k'
       → (next next' : Clock) (i : ℕ) (events : List ProbeEvent) (e : NeighborCache) → Asleep k'.deadline next.now → Sweep d next i events e next'
-      → time_check next.now i ≡ Fine → IsEarliest next'.deadline (already next.deadline ++ times_of (entries e))
+      → time_check next.now i ≡ Ok tt → IsEarliest next'.deadline (already next.deadline ++ times_of (entries e))
   pub same_asleep : (c d : NeighborCache) (first : Instant) (k' : Clock) (is : List ℕ) (j : ℕ) → Round c (idle first) is j d k'
       → (next : Instant) (next' : Clock) (i : ℕ) (events : List ProbeEvent) (e : NeighborCache) → Asleep k'.deadline next → Sweep d (idle next) i events e next'
-      → time_check next i ≡ Fine → next'.deadline ≡ k'.deadline
+      → time_check next i ≡ Ok tt → next'.deadline ≡ k'.deadline
   -- Nor is anything missed that the clock waited for before the round.
   pub before_round : (c d : NeighborCache) (k k' : Clock) (is : List ℕ) (j : ℕ) → Round c k is j d k'
       → (next : Instant) → Asleep k'.deadline next → Asleep k.deadline next
   -- A clock that was lent twice has the earliest of the times of both.
-  pub joined : (d e : Deadline) (these those : List Instant) → IsEarliest d these → IsEarliest e (already d ++ those) → IsEarliest e (these ++ those)
+  pub joined : (d e : Option Instant) (these those : List Instant) → IsEarliest d these → IsEarliest e (already d ++ those) → IsEarliest e (these ++ those)
   -- Whoever has the clock next only brings the deadline forward (`Clocks`): a time before an earlier deadline is before a later one.
-  pub earlier : (d e : Deadline) (now : Instant) → NotLater d e → Asleep d now → Asleep e now
+  pub earlier : (d e : Option Instant) (now : Instant) → NotLater d e → Asleep d now → Asleep e now

@@ -8,6 +8,7 @@ use mathlib.Core.Bool.{Bool, true, false, cond, ◌&&◌, true≢false}
 use mathlib.Core.List.{List, [], ◌∷◌, ◌++◌, append-nil}
 use mathlib.Core.Path.{◌≡◌, refl, ap, sym, ◌∙◌, subst}
 use native.Mathlib.Omega.{arith}
+use Rattle.std.specs.Prelude.{Ok, Err}
 use Rattle.iface.specs.AddressRules.{addrs_of, with_addrs, empty_addrs, is_from_slaac, is_addr, manual_addr, add_addr_by, AddedTo, slaac_addr, refreshed, put_addr, gone, drop_addr, clear_addrs}
 use Rattle.iface.specs.Distinct.{entries_of, Distinct, AddrsOnce, is_slaac_addr, renewed, put_slaac, leaving, drop_slaac, AddrsOnceLaw}
 use Rattle.iface.specs.declared.addr.Added.{Added}
@@ -16,7 +17,6 @@ use Rattle.iface.specs.declared.addr.IfaceAddrs.{IfaceAddrs}
 use Rattle.iface.specs.declared.addr.Preferred.{Preferred}
 use Rattle.table.specs.Table.{kept, dropped, at_first_is, any_of, if_room}
 use Rattle.wire.specs.Rfc4291.{same_addr, same_cidr}
-use Rattle.wire.specs.declared.error.Check.TheVariants.{Fine, Refused as Fails}
 use Rattle.wire.specs.declared.error.Refusal.TheVariants.{NoSuchIface, PrefixTooLong, Duplicate, Full}
 use Rattle.wire.specs.declared.ipv6.Ipv6Addr.{Ipv6Addr}
 use Rattle.wire.specs.declared.ipv6.Ipv6Cidr.{Ipv6Cidr}
@@ -222,7 +222,7 @@ once_added t iface c r p d =
     (go (ltb 3 iface) (ltb 128 c.prefix_len) (any_of (is_addr c) (addrs_of t)) (leb 8 (length (addrs_of t))) refl)
   where
     go : (no-iface long there full : Bool) → any_of (is_addr c) (addrs_of t) ≡ there
-        → AddrsOnce (add_addr_by (cond no-iface (Fails NoSuchIface) (cond long (Fails PrefixTooLong) (cond there (Fails Duplicate) (cond full (Fails Full) Fine)))) t c).addrs
+        → AddrsOnce (add_addr_by (cond no-iface (Err NoSuchIface) (cond long (Err PrefixTooLong) (cond there (Err Duplicate) (cond full (Err Full) (Ok tt))))) t c).addrs
     go true long there full h = d
     go false true there full h = d
     go false false true full h = d

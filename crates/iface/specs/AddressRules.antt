@@ -1,12 +1,10 @@
 -- Document 01: an interface's addresses, what the application adds and what SLAAC's sync does to them. Rules are on the entries, a list;
 -- slots past the entries keep what they held. Assumes nothing.
-use Rattle.std.specs.Prelude.{ℕ, ◌≡◌, Bool, true, false, cond, List, [], ◌∷◌, ◌++◌, take, drop, length, get_or, replicate, ltb}
+use Rattle.std.specs.Prelude.{ℕ, ◌≡◌, Bool, true, false, cond, List, [], ◌∷◌, ◌++◌, take, drop, length, get_or, replicate, ltb, Result, Ok, Err, Option, Some, None}
 use Rattle.table.specs.Table.{filled, kept, at_first_is, any_of, first_of, if_room}
 use Rattle.wire.specs.declared.ipv6.Ipv6Addr.{Ipv6Addr}
 use Rattle.wire.specs.declared.ipv6.Ipv6Cidr.{Ipv6Cidr}
-use Rattle.wire.specs.declared.error.Check.{Check}
 use Rattle.wire.specs.declared.error.Refusal.{Refusal}
-use Rattle.wire.specs.declared.error.Outcome.TheVariants.{Refused, Done}
 use Rattle.wire.specs.Rfc4291.{same_cidr, is_link_local}
 use Rattle.wire.specs.Refusals.{Row, first_refusal, check_number, outcome_number, decided, no_such_iface}
 use Rattle.iface.specs.declared.addr.AddrOrigin.{AddrOrigin}
@@ -17,10 +15,6 @@ use Rattle.iface.specs.declared.addr.IfaceAddr.{IfaceAddr}
 use Rattle.iface.specs.declared.addr.IfaceAddrs.{IfaceAddrs}
 use Rattle.iface.specs.declared.addr.Added.{Added}
 use Rattle.iface.specs.declared.addr.Cleared.{Cleared}
-use Rattle.iface.specs.declared.addr.Source.{Source}
-use Rattle.iface.specs.declared.addr.Source.TheVariants.{Nothing as NoSource, From}
-use Rattle.iface.specs.declared.addr.AddrAt.{AddrAt}
-use Rattle.iface.specs.declared.addr.AddrAt.TheVariants.{Nothing, Is}
 use Rattle.iface.specs.Answers.{prefix_too_long, duplicate, no_room_is, source_number, source_shown, addr_at_number, addr_at_shown}
 
 -- the entries: the first `len` slots, "addresses 8 per interface"; "A count above its size reads as the size"
@@ -62,14 +56,14 @@ manual_addr c = record { cidr = c; origin = Manual; preferred = Always }
 abbrev pub addr_rows : ℕ → Ipv6Cidr → List IfaceAddr → List Row
 addr_rows iface c es = no_such_iface iface ∷ prefix_too_long c ∷ duplicate (any_of (is_addr c) es) ∷ no_room_is 8 es ∷ []
 
-abbrev pub addr_check : ℕ → Ipv6Cidr → List IfaceAddr → Check
+abbrev pub addr_check : ℕ → Ipv6Cidr → List IfaceAddr → Result (Unit {0}) Refusal
 addr_check iface c es = first_refusal (addr_rows iface c es)
 
 abbrev pub not_added : IfaceAddrs → Refusal → Added
-not_added t why = record { addrs = t; outcome = Refused why }
+not_added t why = record { addrs = t; outcome = Err why }
 
-abbrev pub add_addr_by : Check → IfaceAddrs → Ipv6Cidr → Added
-add_addr_by check t c = decided check (not_added t) (record { addrs = with_addrs t (addrs_of t ++ (manual_addr c ∷ [])); outcome = Done })
+abbrev pub add_addr_by : Result (Unit {0}) Refusal → IfaceAddrs → Ipv6Cidr → Added
+add_addr_by check t c = decided check (not_added t) (record { addrs = with_addrs t (addrs_of t ++ (manual_addr c ∷ [])); outcome = Ok tt })
 
 pub record AddedTo (t : IfaceAddrs) (iface : ℕ) (c : Ipv6Cidr) (r : Added) : Type 0 where
   pub is : r ≡ add_addr_by (addr_check iface c (addrs_of t)) t c
@@ -103,27 +97,27 @@ clear_addrs t = record { addrs = with_addrs t (kept is_from_slaac (addrs_of t));
 abbrev pub is_local : IfaceAddr → Bool
 is_local e = is_link_local e.cidr.address
 
-abbrev pub source_of : IfaceAddr → Source
-source_of e = From e.cidr.address
+abbrev pub source_of : IfaceAddr → Option Ipv6Addr
+source_of e = Some e.cidr.address
 
-unfoldable pub first_local : List IfaceAddr → Source
-first_local es = first_of is_local source_of NoSource es
+unfoldable pub first_local : List IfaceAddr → Option Ipv6Addr
+first_local es = first_of is_local source_of None es
 
 -- the address of an entry, and nothing else
 abbrev pub address_alone : IfaceAddr → List Ipv6Addr
 address_alone e = e.cidr.address ∷ []
 
-pub record LocalOf (t : IfaceAddrs) (r : Source) : Type 0 where
+pub record LocalOf (t : IfaceAddrs) (r : Option Ipv6Addr) : Type 0 where
   pub is : r ≡ first_local (addrs_of t)
   pub number : source_number r ≡ 0
   pub shows : source_shown r ≡ first_of is_local address_alone [] (addrs_of t)
 
 -- Listing: the entry at an index
 
-abbrev pub addr_at : IfaceAddrs → ℕ → AddrAt
-addr_at t i = cond (ltb i (length (addrs_of t))) (Is (get_or (addrs_of t) i no_addr)) Nothing
+abbrev pub addr_at : IfaceAddrs → ℕ → Option IfaceAddr
+addr_at t i = cond (ltb i (length (addrs_of t))) (Some (get_or (addrs_of t) i no_addr)) None
 
-pub record AddrListed (t : IfaceAddrs) (i : ℕ) (r : AddrAt) : Type 0 where
+pub record AddrListed (t : IfaceAddrs) (i : ℕ) (r : Option IfaceAddr) : Type 0 where
   pub is : r ≡ addr_at t i
   pub number : addr_at_number r ≡ 0
   pub shows : addr_at_shown r ≡ take 1 (drop i (addrs_of t))

@@ -1,14 +1,12 @@
 -- Document 01: the routes, what the application adds and what SLAAC's sync does to them. Rules are on the entries, a list; slots past the
 -- entries keep what they held. Assumes nothing.
-use Rattle.std.specs.Prelude.{ℕ, ◌≡◌, Bool, true, false, cond, ◌&&◌, not, List, [], ◌∷◌, ◌++◌, take, drop, length, get_or, replicate, ltb, eqb}
+use Rattle.std.specs.Prelude.{ℕ, ◌≡◌, Bool, true, false, cond, ◌&&◌, not, List, [], ◌∷◌, ◌++◌, take, drop, length, get_or, replicate, ltb, eqb, Result, Ok, Err, Option, Some, None}
 use Rattle.table.specs.Table.{filled, kept, at_first_is, any_of, if_room}
 use Rattle.time.specs.declared.Instant.{Instant}
 use Rattle.time.specs.declared.Expiry.TheVariants.{Forever, At}
 use Rattle.wire.specs.declared.ipv6.Ipv6Addr.{Ipv6Addr}
 use Rattle.wire.specs.declared.ipv6.Ipv6Cidr.{Ipv6Cidr}
-use Rattle.wire.specs.declared.error.Check.{Check}
 use Rattle.wire.specs.declared.error.Refusal.{Refusal}
-use Rattle.wire.specs.declared.error.Outcome.TheVariants.{Refused, Done}
 use Rattle.wire.specs.Rfc4291.{same_addr, same_cidr}
 use Rattle.wire.specs.Refusals.{Row, first_refusal, check_number, outcome_number, decided, no_such_iface}
 use Rattle.iface.specs.declared.route.RouteOrigin.{RouteOrigin}
@@ -16,8 +14,6 @@ use Rattle.iface.specs.declared.route.RouteOrigin.TheVariants.{Manual, Slaac}
 use Rattle.iface.specs.declared.route.Route.{Route}
 use Rattle.iface.specs.declared.route.Routes.{Routes}
 use Rattle.iface.specs.declared.route.AddedRoute.{AddedRoute}
-use Rattle.iface.specs.declared.route.RouteAt.{RouteAt}
-use Rattle.iface.specs.declared.route.RouteAt.TheVariants.{Nothing, Is}
 use Rattle.iface.specs.Answers.{prefix_too_long, duplicate, no_room_is, route_at_number, route_at_shown}
 use Rattle.iface.specs.AddressRules.{anywhere}
 
@@ -57,14 +53,14 @@ is_manual_route iface c via e = not (is_slaac e.origin) && is_route iface c via 
 abbrev pub route_rows : ℕ → Ipv6Cidr → Ipv6Addr → List Route → List Row
 route_rows iface c via es = no_such_iface iface ∷ prefix_too_long c ∷ duplicate (any_of (is_manual_route iface c via) es) ∷ no_room_is 8 es ∷ []
 
-abbrev pub route_check : ℕ → Ipv6Cidr → Ipv6Addr → List Route → Check
+abbrev pub route_check : ℕ → Ipv6Cidr → Ipv6Addr → List Route → Result (Unit {0}) Refusal
 route_check iface c via es = first_refusal (route_rows iface c via es)
 
 abbrev pub not_added : Routes → Refusal → AddedRoute
-not_added t why = record { routes = t; outcome = Refused why }
+not_added t why = record { routes = t; outcome = Err why }
 
-abbrev pub add_route_by : Check → Routes → Route → AddedRoute
-add_route_by check t e = decided check (not_added t) (record { routes = with_routes t (routes_of t ++ (e ∷ [])); outcome = Done })
+abbrev pub add_route_by : Result (Unit {0}) Refusal → Routes → Route → AddedRoute
+add_route_by check t e = decided check (not_added t) (record { routes = with_routes t (routes_of t ++ (e ∷ [])); outcome = Ok tt })
 
 pub record AddedRouteTo (t : Routes) (iface : ℕ) (c : Ipv6Cidr) (via : Ipv6Addr) (r : AddedRoute) : Type 0 where
   pub is : r ≡ add_route_by (route_check iface c via (routes_of t)) t (manual_route iface c via)
@@ -103,10 +99,10 @@ clear_routes iface es = kept (is_learned iface) es
 
 -- Listing: the entry at an index
 
-abbrev pub route_at : Routes → ℕ → RouteAt
-route_at t i = cond (ltb i (length (routes_of t))) (Is (get_or (routes_of t) i no_route)) Nothing
+abbrev pub route_at : Routes → ℕ → Option Route
+route_at t i = cond (ltb i (length (routes_of t))) (Some (get_or (routes_of t) i no_route)) None
 
-pub record RouteListed (t : Routes) (i : ℕ) (r : RouteAt) : Type 0 where
+pub record RouteListed (t : Routes) (i : ℕ) (r : Option Route) : Type 0 where
   pub is : r ≡ route_at t i
   pub number : route_at_number r ≡ 0
   pub shows : route_at_shown r ≡ take 1 (drop i (routes_of t))

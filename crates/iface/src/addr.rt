@@ -1,17 +1,18 @@
 // The addresses of an interface.
 ghost use Rattle.std.specs.Prelude.{◌≡◌};
-ghost use Rattle.iface.specs.AddressRules.{addrs_of, with_addrs, empty_addrs, is_slaac, manual_addr, AddedTo, drop_addr, clear_addrs, LocalOf, AddrListed};
+ghost use Rattle.table.specs.Calls.{place_of};
+ghost use Rattle.iface.specs.AddressRules.{addrs_of, with_addrs, empty_addrs, is_slaac, is_addr, manual_addr, AddedTo, drop_addr, clear_addrs, is_local, LocalOf, AddrListed};
 
 use crate::check_prefix;
-use table::count_of;
+use table::{count_of, position, remove, retain};
 use time::Expiry;
-use wire::error::{Check, Outcome, Refusal};
+use wire::error::Refusal;
 use wire::ipv6::{Ipv6Addr, Ipv6Cidr};
 
 // How many addresses an interface can hold.
 pub const IFACE_ADDR_COUNT: usize = 8;
 
-// Who put an address there.
+// Who put an address there. A type apart from a route's origin, as in the Rust.
 #[derive(Clone, Copy)]
 pub enum AddrOrigin {
     // The application.
@@ -39,6 +40,7 @@ pub struct IfaceAddr {
     pub preferred: Preferred,
 }
 
+// Fixed memory: an array, and a count, which may be above its size (document 01).
 #[derive(Clone, Copy)]
 pub struct IfaceAddrs {
     pub slots: [IfaceAddr; IFACE_ADDR_COUNT],
@@ -49,7 +51,7 @@ pub struct IfaceAddrs {
 #[derive(Clone, Copy)]
 pub struct Added {
     pub addrs: IfaceAddrs,
-    pub outcome: Outcome,
+    pub outcome: Result<(), Refusal>,
 }
 
 // The table without SLAAC's addresses, and whether there were any.
@@ -59,28 +61,11 @@ pub struct Cleared {
     pub any: bool,
 }
 
-// The address that a message is sent from.
-#[derive(Clone, Copy)]
-pub enum Source {
-    Nothing,
-    From(Ipv6Addr),
-}
-
-// The entry at an index.
-#[derive(Clone, Copy)]
-pub enum AddrAt {
-    Nothing,
-    Is(IfaceAddr),
-}
-
 impl AddrOrigin {
     pub fn is_slaac(self) -> bool
         ensures { result ≡ is_slaac self }
     {
-        match self {
-            AddrOrigin::Manual => false,
-            AddrOrigin::Slaac => true,
-        }
+        matches!(self, AddrOrigin::Slaac)
     }
 }
 
@@ -90,7 +75,7 @@ impl IfaceAddr {
         ensures { result ≡ manual_addr cidr }
     {
         IfaceAddr {
-            cidr: cidr,
+            cidr,
             origin: AddrOrigin::Manual,
             preferred: Preferred::Always,
         }
@@ -106,49 +91,60 @@ impl IfaceAddrs {
             address: Ipv6Addr { hi: 0, lo: 0 },
             prefix_len: 0,
         });
-        let slots = [blank; IFACE_ADDR_COUNT];
         IfaceAddrs {
-            slots: slots,
+            slots: [blank; IFACE_ADDR_COUNT],
             len: 0,
         }
+    }
+
+    // Where an address stands, whoever put it there.
+    fn place_of(&self, cidr: Ipv6Cidr) -> Option<usize>
+        ensures { result ≡ place_of (is_addr cidr) (addrs_of self.now) }
+    {
+        let count = count_of(self.len, IFACE_ADDR_COUNT);
+        position(&self.slots[..count], |entry| entry.cidr == cidr)
+    }
+
+    // Where the first link-local address stands.
+    fn first_local(&self) -> Option<usize>
+        ensures { result ≡ place_of is_local (addrs_of self.now) }
+    {
+        let count = count_of(self.len, IFACE_ADDR_COUNT);
+        position(
+            &self.slots[..count],
+            |entry| entry.cidr.address.is_link_local(),
+        )
     }
 
     // The application assigns an address.
     pub fn add_ip_addr(self, iface: u8, cidr: Ipv6Cidr) -> Added
         ensures { AddedTo self iface cidr result }
     {
-        if let Check::Refused(why) = check_prefix(iface, cidr) {
+        if let Err(why) = check_prefix(iface, cidr) {
             return Added {
                 addrs: self,
-                outcome: Outcome::Refused(why),
+                outcome: Err(why),
+            };
+        }
+        if self.place_of(cidr).is_some() {
+            return Added {
+                addrs: self,
+                outcome: Err(Refusal::Duplicate),
             };
         }
         let count = count_of(self.len, IFACE_ADDR_COUNT);
-        let mut i = 0;
-        while i < count {
-            let entry = self.slots[i];
-            let taken = entry.cidr;
-            if taken.same(cidr) {
-                return Added {
-                    addrs: self,
-                    outcome: Outcome::Refused(Refusal::Duplicate),
-                };
-            }
-            i += 1;
-        }
-        if count < IFACE_ADDR_COUNT {
-            let mut addrs = self;
-            let new = IfaceAddr::manual(cidr);
-            addrs.slots[count] = new;
-            addrs.len = count + 1;
+        if count == IFACE_ADDR_COUNT {
             return Added {
-                addrs: addrs,
-                outcome: Outcome::Done,
+                addrs: self,
+                outcome: Err(Refusal::Full),
             };
         }
+        let mut addrs = self;
+        addrs.slots[count] = IfaceAddr::manual(cidr);
+        addrs.len = count + 1;
         Added {
-            addrs: self,
-            outcome: Outcome::Refused(Refusal::Full),
+            addrs,
+            outcome: Ok(()),
         }
     }
 
@@ -157,32 +153,13 @@ impl IfaceAddrs {
         ensures { result ≡ with_addrs self (drop_addr cidr (addrs_of self)) }
     {
         let count = count_of(self.len, IFACE_ADDR_COUNT);
-        let mut i = 0;
-        while i < count {
-            let entry = self.slots[i];
-            let entry_cidr = entry.cidr;
-            if entry_cidr.same(cidr) {
-                let mut addrs = self;
-                let origin = entry.origin;
-                if origin.is_slaac() {
-                    let mut hole = i;
-                    let mut next = i + 1;
-                    while next < count {
-                        let later = addrs.slots[next];
-                        addrs.slots[hole] = later;
-                        hole = next;
-                        next += 1;
-                    }
-                    addrs.len = hole;
-                    return addrs;
-                }
-                addrs.len = count;
-                return addrs;
+        let mut addrs = IfaceAddrs { len: count, ..self };
+        if let Some(at) = self.place_of(cidr) {
+            if self.slots[at].origin.is_slaac() {
+                remove(&mut addrs.slots, count, at);
+                addrs.len = count - 1;
             }
-            i += 1;
         }
-        let mut addrs = self;
-        addrs.len = count;
         addrs
     }
 
@@ -192,50 +169,28 @@ impl IfaceAddrs {
     {
         let count = count_of(self.len, IFACE_ADDR_COUNT);
         let mut addrs = self;
-        let mut kept = 0;
-        let mut i = 0;
-        while i < count {
-            let entry = addrs.slots[i];
-            let origin = entry.origin;
-            i += 1;
-            if !origin.is_slaac() {
-                addrs.slots[kept] = entry;
-                kept += 1;
-            }
-        }
-        addrs.len = kept;
+        addrs.len = retain(&mut addrs.slots, count, |entry| !entry.origin.is_slaac());
         Cleared {
-            addrs: addrs,
-            any: kept < count,
+            addrs,
+            any: addrs.len < count,
         }
     }
 
     // The first link-local address, if there is one.
-    pub fn link_local_ipv6_address(self) -> Source
+    pub fn link_local_ipv6_address(self) -> Option<Ipv6Addr>
         ensures { LocalOf self result }
     {
-        let count = count_of(self.len, IFACE_ADDR_COUNT);
-        let mut i = 0;
-        while i < count {
-            let entry = self.slots[i];
-            let address = entry.cidr.address;
-            if address.is_link_local() {
-                return Source::From(address);
-            }
-            i += 1;
+        match self.first_local() {
+            Some(at) => Some(self.slots[at].cidr.address),
+            None => None,
         }
-        Source::Nothing
     }
 
     // The listing, entry by entry.
-    pub fn at(self, index: usize) -> AddrAt
+    pub fn at(self, index: usize) -> Option<IfaceAddr>
         ensures { AddrListed self index result }
     {
         let count = count_of(self.len, IFACE_ADDR_COUNT);
-        if index < count {
-            let entry = self.slots[index];
-            return AddrAt::Is(entry);
-        }
-        AddrAt::Nothing
+        self.slots[..count].get(index).copied()
     }
 }

@@ -8,21 +8,19 @@ ghost use Rattle.iface.specs.Answers.{prefix_rows};
 pub mod addr;
 pub mod route;
 
-use wire::error::{Check, Refusal, check_iface};
+use wire::error::{Refusal, check_iface};
 use wire::ipv6::Ipv6Cidr;
 
 // The length of a prefix that is a whole address.
 const MAX_PREFIX_LEN: u8 = 128;
 
 // What the application's calls test of their arguments alone: the interface, then the prefix length.
-fn check_prefix(iface: u8, cidr: Ipv6Cidr) -> Check
+fn check_prefix(iface: u8, cidr: Ipv6Cidr) -> Result<(), Refusal>
     ensures { Tested (prefix_rows iface cidr) result }
 {
-    if let Check::Refused(why) = check_iface(iface) {
-        return Check::Refused(why);
-    }
+    check_iface(iface)?;
     if cidr.prefix_len > MAX_PREFIX_LEN {
-        return Check::Refused(Refusal::PrefixTooLong);
+        return Err(Refusal::PrefixTooLong);
     }
-    Check::Fine
+    Ok(())
 }

@@ -1,17 +1,18 @@
 // The routes, shared by the interfaces.
 ghost use Rattle.std.specs.Prelude.{◌≡◌};
+ghost use Rattle.table.specs.Calls.{place_of};
 ghost use Rattle.iface.specs.RouteRules.{routes_of, with_routes, empty_routes, is_slaac, is_route, is_manual_route, is_learned, is_installed, manual_route, AddedRouteTo, drop_route, clear_routes, RouteListed};
 
 use crate::check_prefix;
-use table::count_of;
+use table::{count_of, position, remove, retain};
 use time::{Expiry, Instant};
-use wire::error::{Check, Outcome, Refusal};
+use wire::error::Refusal;
 use wire::ipv6::{Ipv6Addr, Ipv6Cidr};
 
 // How many routes the interfaces can share.
 pub const ROUTE_COUNT: usize = 8;
 
-// Who put a route there.
+// Who put a route there. A type apart from an address's origin, as in the Rust.
 #[derive(Clone, Copy)]
 pub enum RouteOrigin {
     // The application.
@@ -30,6 +31,7 @@ pub struct Route {
     pub expires_at: Expiry,
 }
 
+// Fixed memory: an array, and a count, which may be above its size (document 01).
 #[derive(Clone, Copy)]
 pub struct Routes {
     pub slots: [Route; ROUTE_COUNT],
@@ -40,14 +42,7 @@ pub struct Routes {
 #[derive(Clone, Copy)]
 pub struct AddedRoute {
     pub routes: Routes,
-    pub outcome: Outcome,
-}
-
-// The entry at an index.
-#[derive(Clone, Copy)]
-pub enum RouteAt {
-    Nothing,
-    Is(Route),
+    pub outcome: Result<(), Refusal>,
 }
 
 // ::/0
@@ -60,10 +55,7 @@ impl RouteOrigin {
     fn is_slaac(self) -> bool
         ensures { result ≡ is_slaac self }
     {
-        match self {
-            RouteOrigin::Manual => false,
-            RouteOrigin::Slaac => true,
-        }
+        matches!(self, RouteOrigin::Slaac)
     }
 }
 
@@ -73,54 +65,40 @@ impl Route {
         ensures { result ≡ manual_route iface cidr via_router }
     {
         Route {
-            cidr: cidr,
-            via_router: via_router,
-            iface: iface,
+            cidr,
+            via_router,
+            iface,
             origin: RouteOrigin::Manual,
             expires_at: Expiry::Forever,
         }
     }
 
     // Whether it is that route: when and by whom it was made does not count.
-    fn same_route(self, iface: u8, cidr: Ipv6Cidr, via_router: Ipv6Addr) -> bool
-        ensures { result ≡ is_route iface cidr via_router self }
+    fn same_route(&self, iface: u8, cidr: Ipv6Cidr, via_router: Ipv6Addr) -> bool
+        ensures { result ≡ is_route iface cidr via_router self.now }
     {
-        let own_cidr = self.cidr;
-        let own_router = self.via_router;
-        let same_iface = self.iface == iface;
-        let same_cidr = own_cidr.same(cidr);
-        let same_router = own_router.same(via_router);
-        same_iface & same_cidr & same_router
+        self.iface == iface && self.cidr == cidr && self.via_router == via_router
     }
 
     // Whether it is a route that the application added, out of the interface to the prefix via the router.
-    fn assigned(self, iface: u8, cidr: Ipv6Cidr, via_router: Ipv6Addr) -> bool
-        ensures { result ≡ is_manual_route iface cidr via_router self }
+    fn assigned(&self, iface: u8, cidr: Ipv6Cidr, via_router: Ipv6Addr) -> bool
+        ensures { result ≡ is_manual_route iface cidr via_router self.now }
     {
-        let origin = self.origin;
-        let from_slaac = origin.is_slaac();
-        let same = self.same_route(iface, cidr, via_router);
-        !from_slaac & same
+        !self.origin.is_slaac() && self.same_route(iface, cidr, via_router)
     }
 
     // Whether it is the default route by that router that SLAAC installed on the interface.
     pub fn installed(self, iface: u8, via_router: Ipv6Addr) -> bool
         ensures { result ≡ is_installed iface via_router self }
     {
-        let origin = self.origin;
-        let from_slaac = origin.is_slaac();
-        let same = self.same_route(iface, IPV6_DEFAULT, via_router);
-        from_slaac & same
+        self.origin.is_slaac() && self.same_route(iface, IPV6_DEFAULT, via_router)
     }
 
     // Whether SLAAC learned it on the interface.
-    fn is_learned(self, iface: u8) -> bool
-        ensures { result ≡ is_learned iface self }
+    fn is_learned(&self, iface: u8) -> bool
+        ensures { result ≡ is_learned iface self.now }
     {
-        let origin = self.origin;
-        let from_slaac = origin.is_slaac();
-        let same_iface = self.iface == iface;
-        from_slaac & same_iface
+        self.origin.is_slaac() && self.iface == iface
     }
 }
 
@@ -136,48 +114,63 @@ impl Routes {
             origin: RouteOrigin::Manual,
             expires_at: Expiry::At(Instant(0)),
         };
-        let slots = [blank; ROUTE_COUNT];
         Routes {
-            slots: slots,
+            slots: [blank; ROUTE_COUNT],
             len: 0,
         }
+    }
+
+    // Where a route that the application added stands.
+    fn place_of(&self, iface: u8, cidr: Ipv6Cidr, via_router: Ipv6Addr) -> Option<usize>
+        ensures { result ≡ place_of (is_manual_route iface cidr via_router) (routes_of self.now) }
+    {
+        let count = count_of(self.len, ROUTE_COUNT);
+        position(
+            &self.slots[..count],
+            |entry| entry.assigned(iface, cidr, via_router),
+        )
+    }
+
+    // Where the default route by that router stands, if SLAAC installed one on the interface.
+    fn place_installed(&self, iface: u8, via_router: Ipv6Addr) -> Option<usize>
+        ensures { result ≡ place_of (is_installed iface via_router) (routes_of self.now) }
+    {
+        let count = count_of(self.len, ROUTE_COUNT);
+        position(
+            &self.slots[..count],
+            |entry| entry.installed(iface, via_router),
+        )
     }
 
     // The application adds a route.
     pub fn add_route(self, iface: u8, cidr: Ipv6Cidr, via_router: Ipv6Addr) -> AddedRoute
         ensures { AddedRouteTo self iface cidr via_router result }
     {
-        if let Check::Refused(why) = check_prefix(iface, cidr) {
+        if let Err(why) = check_prefix(iface, cidr) {
             return AddedRoute {
                 routes: self,
-                outcome: Outcome::Refused(why),
+                outcome: Err(why),
+            };
+        }
+        if self.place_of(iface, cidr, via_router).is_some() {
+            return AddedRoute {
+                routes: self,
+                outcome: Err(Refusal::Duplicate),
             };
         }
         let count = count_of(self.len, ROUTE_COUNT);
-        let mut i = 0;
-        while i < count {
-            let entry = self.slots[i];
-            if entry.assigned(iface, cidr, via_router) {
-                return AddedRoute {
-                    routes: self,
-                    outcome: Outcome::Refused(Refusal::Duplicate),
-                };
-            }
-            i += 1;
-        }
-        if count < ROUTE_COUNT {
-            let mut routes = self;
-            let new = Route::manual(iface, cidr, via_router);
-            routes.slots[count] = new;
-            routes.len = count + 1;
+        if count == ROUTE_COUNT {
             return AddedRoute {
-                routes: routes,
-                outcome: Outcome::Done,
+                routes: self,
+                outcome: Err(Refusal::Full),
             };
         }
+        let mut routes = self;
+        routes.slots[count] = Route::manual(iface, cidr, via_router);
+        routes.len = count + 1;
         AddedRoute {
-            routes: self,
-            outcome: Outcome::Refused(Refusal::Full),
+            routes,
+            outcome: Ok(()),
         }
     }
 
@@ -187,26 +180,11 @@ impl Routes {
         ensures { result ≡ with_routes self (drop_route iface via_router (routes_of self)) }
     {
         let count = count_of(self.len, ROUTE_COUNT);
-        let mut i = 0;
-        while i < count {
-            let entry = self.slots[i];
-            if entry.installed(iface, via_router) {
-                let mut routes = self;
-                let mut hole = i;
-                let mut next = i + 1;
-                while next < count {
-                    let later = routes.slots[next];
-                    routes.slots[hole] = later;
-                    hole = next;
-                    next += 1;
-                }
-                routes.len = hole;
-                return routes;
-            }
-            i += 1;
+        let mut routes = Routes { len: count, ..self };
+        if let Some(at) = self.place_installed(iface, via_router) {
+            remove(&mut routes.slots, count, at);
+            routes.len = count - 1;
         }
-        let mut routes = self;
-        routes.len = count;
         routes
     }
 
@@ -216,29 +194,15 @@ impl Routes {
     {
         let count = count_of(self.len, ROUTE_COUNT);
         let mut routes = self;
-        let mut kept = 0;
-        let mut i = 0;
-        while i < count {
-            let entry = routes.slots[i];
-            i += 1;
-            if !entry.is_learned(iface) {
-                routes.slots[kept] = entry;
-                kept += 1;
-            }
-        }
-        routes.len = kept;
+        routes.len = retain(&mut routes.slots, count, |entry| !entry.is_learned(iface));
         routes
     }
 
     // The listing, entry by entry.
-    pub fn at(self, index: usize) -> RouteAt
+    pub fn at(self, index: usize) -> Option<Route>
         ensures { RouteListed self index result }
     {
         let count = count_of(self.len, ROUTE_COUNT);
-        if index < count {
-            let entry = self.slots[index];
-            return RouteAt::Is(entry);
-        }
-        RouteAt::Nothing
+        self.slots[..count].get(index).copied()
     }
 }

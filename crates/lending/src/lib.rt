@@ -44,36 +44,27 @@ pub fn now(clock: Clock) -> Instant
 }
 
 // Whether `at` has come; a time that has not come is scheduled.
-pub fn expired(clock: Clock, at: Instant) -> Asked
+pub fn expired(mut clock: Clock, at: Instant) -> Asked
     ensures { (result.yes ≡ (asked_of clock at).expired) × (result.clock ≡ (asked_of clock at).clock) }
 {
-    let mut held = clock;
-    let yes = held.expired(at);
-    Asked {
-        yes: yes,
-        clock: held,
-    }
+    let yes = clock.expired(at);
+    Asked { yes, clock }
 }
 
 // The clock with `at` among the times that someone waits for.
-pub fn schedule(clock: Clock, at: Instant) -> Clock
+pub fn schedule(mut clock: Clock, at: Instant) -> Clock
     ensures { result ≡ scheduled_of clock at }
 {
-    let mut held = clock;
-    held.schedule(at);
-    held
+    clock.schedule(at);
+    clock
 }
 
 // The sweep at the clock's now, which brings the clock's deadline forward.
-pub fn sweep(cache: NeighborCache, clock: Clock, iface: u8) -> SweptBy
+pub fn sweep(cache: NeighborCache, mut clock: Clock, iface: u8) -> SweptBy
     ensures { ReportedTo cache clock iface result.reported result.clock }
 {
-    let mut held = clock;
-    let reported = lent::sweep(cache, &mut held, iface);
-    SweptBy {
-        reported: reported,
-        clock: held,
-    }
+    let reported = lent::sweep(cache, &mut clock, iface);
+    SweptBy { reported, clock }
 }
 
 // The poll at the clock's now, likewise. What it sends stands in the lent buffer.
@@ -85,11 +76,10 @@ pub fn poll(
     up: bool,
     hardware_addr: HardwareAddress,
     buf: &mut [u8],
-    clock: Clock,
+    mut clock: Clock,
 ) -> PolledBy
     ensures { LeftByPoll slaac addrs routes iface up hardware_addr buf.old clock result.polled buf.new result.clock }
 {
-    let mut held = clock;
     let polled = lent::poll(
         slaac,
         addrs,
@@ -98,10 +88,7 @@ pub fn poll(
         up,
         hardware_addr,
         buf,
-        &mut held,
+        &mut clock,
     );
-    PolledBy {
-        polled: polled,
-        clock: held,
-    }
+    PolledBy { polled, clock }
 }

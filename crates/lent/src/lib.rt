@@ -11,7 +11,7 @@ use neighbor::NeighborCache;
 use slaac::Slaac;
 use sweep::{Events, sweep_at};
 use time::Clock;
-use wire::error::Outcome;
+use wire::error::Refusal;
 use wire::ethernet::HardwareAddress;
 
 // What a sweep leaves beside the clock.
@@ -20,7 +20,7 @@ pub struct Reported {
     pub cache: NeighborCache,
     pub events: Events,
     pub looked: usize,
-    pub outcome: Outcome,
+    pub outcome: Result<(), Refusal>,
 }
 
 // The sweep at the lent clock's now, which brings the clock's deadline forward.

@@ -1,94 +1,85 @@
 -- Document 01: "Event kinds: up (restarts too), down, poll, ra (source, message), start (address), sweep, fill (address, hardware address),
 -- remove (address), off. Each line begins with its time". By the line's fields. Assumes nothing.
-use Rattle.std.specs.Prelude.{ℕ, ◌≤◌, ◌≡◌, cond, List, [], ◌∷◌, length, take}
+use Rattle.std.specs.Prelude.{ℕ, ◌≤◌, ◌≡◌, cond, List, [], ◌∷◌, length, take, Option, Some, None}
+use Rattle.wire.specs.declared.ethernet.HardwareAddress.{HardwareAddress}
+use Rattle.wire.specs.declared.ipv6.Ipv6Addr.{Ipv6Addr}
 use Rattle.table.specs.Table.{filled}
-use Rattle.wire.specs.Rfc4291.{same_bytes_is}
+use Rattle.std.specs.Str.{bytes_eq}
 use Rattle.text.specs.Fields.{Field, fields}
 use Rattle.text.specs.Decimal.{number_of}
-use Rattle.text.specs.Addresses.{address_of, hardware_of, message_of, bytes_of}
-use Rattle.text.specs.declared.number.Number.{Number}
-use Rattle.text.specs.declared.number.Number.TheVariants.{Value as Num, Bad as NoNum}
-use Rattle.text.specs.declared.address.Address.{Address}
-use Rattle.text.specs.declared.address.Address.TheVariants.{Value as Addr, Bad as NoAddr}
-use Rattle.text.specs.declared.address.Hardware.{Hardware}
-use Rattle.text.specs.declared.address.Hardware.TheVariants.{Value as Hw, Bad as NoHw}
-use Rattle.text.specs.declared.address.Message.{Message}
-use Rattle.text.specs.declared.address.Message.TheVariants.{Bytes, Bad as NoMessage}
+use Rattle.text.specs.Addresses.{address_of, hardware_of, message_of}
+use Rattle.text.specs.Hex.{bytes_of}
 use Rattle.lines.specs.declared.event.Event.{Event}
 use Rattle.lines.specs.declared.event.Event.TheVariants.{Up, Down, Poll, Sweep, Off, Ra, Start, Fill, Remove}
-use Rattle.lines.specs.declared.event.Read.{Read}
-use Rattle.lines.specs.declared.event.Read.TheVariants.{Event as Good, Bad}
-use Rattle.lines.specs.declared.event.Parsed.{Parsed}
-use Rattle.lines.specs.declared.event.Parsed.TheVariants.{At, Bad as NoLine}
 use Rattle.lines.specs.Words.{up, down, poll, sweep, off, ra, start, fill, remove, no_field, last_field}
 
 -- "ra (source, message)"
-abbrev pub ra_with : Address → Message → Read
-ra_with (Addr a) (Bytes n) = Good (Ra a n)
-ra_with (Addr a) NoMessage = Bad
-ra_with NoAddr m = Bad
+abbrev pub ra_with : Option Ipv6Addr → Option ℕ → Option Event
+ra_with (Some a) (Some n) = Some (Ra a n)
+ra_with (Some a) None = None
+ra_with None m = None
 
-abbrev pub ra_of : ℕ → List Field → Read
-ra_of room [] = Bad
-ra_of room (a ∷ fs) = ra_with (address_of a) (last_field NoMessage (message_of room) fs)
+abbrev pub ra_of : ℕ → List Field → Option Event
+ra_of room [] = None
+ra_of room (a ∷ fs) = ra_with (address_of a) (last_field None (message_of room) fs)
 
 -- "start (address)", "remove (address)"
-abbrev pub start_with : Address → Read
-start_with (Addr a) = Good (Start a)
-start_with NoAddr = Bad
+abbrev pub start_with : Option Ipv6Addr → Option Event
+start_with (Some a) = Some (Start a)
+start_with None = None
 
-abbrev pub remove_with : Address → Read
-remove_with (Addr a) = Good (Remove a)
-remove_with NoAddr = Bad
+abbrev pub remove_with : Option Ipv6Addr → Option Event
+remove_with (Some a) = Some (Remove a)
+remove_with None = None
 
-abbrev pub start_of : List Field → Read
-start_of fs = start_with (last_field NoAddr address_of fs)
+abbrev pub start_of : List Field → Option Event
+start_of fs = start_with (last_field None address_of fs)
 
-abbrev pub remove_of : List Field → Read
-remove_of fs = remove_with (last_field NoAddr address_of fs)
+abbrev pub remove_of : List Field → Option Event
+remove_of fs = remove_with (last_field None address_of fs)
 
 -- "fill (address, hardware address)"
-abbrev pub fill_with : Address → Hardware → Read
-fill_with (Addr a) (Hw h) = Good (Fill a h)
-fill_with (Addr a) NoHw = Bad
-fill_with NoAddr h = Bad
+abbrev pub fill_with : Option Ipv6Addr → Option HardwareAddress → Option Event
+fill_with (Some a) (Some h) = Some (Fill a h)
+fill_with (Some a) None = None
+fill_with None h = None
 
-abbrev pub fill_of : List Field → Read
-fill_of [] = Bad
-fill_of (a ∷ fs) = fill_with (address_of a) (last_field NoHw hardware_of fs)
+abbrev pub fill_of : List Field → Option Event
+fill_of [] = None
+fill_of (a ∷ fs) = fill_with (address_of a) (last_field None hardware_of fs)
 
 -- a kind and what goes with it; there is room for a message of so many bytes
-unfoldable pub kind_of : ℕ → Field → List Field → Read
+unfoldable pub kind_of : ℕ → Field → List Field → Option Event
 kind_of room w fs =
-    cond (same_bytes_is w up) (no_field Bad (Good Up) fs)
-    (cond (same_bytes_is w down) (no_field Bad (Good Down) fs)
-    (cond (same_bytes_is w poll) (no_field Bad (Good Poll) fs)
-    (cond (same_bytes_is w sweep) (no_field Bad (Good Sweep) fs)
-    (cond (same_bytes_is w off) (no_field Bad (Good Off) fs)
-    (cond (same_bytes_is w ra) (ra_of room fs)
-    (cond (same_bytes_is w start) (start_of fs)
-    (cond (same_bytes_is w fill) (fill_of fs)
-    (cond (same_bytes_is w remove) (remove_of fs) Bad))))))))
+    cond (bytes_eq w up) (no_field None (Some Up) fs)
+    (cond (bytes_eq w down) (no_field None (Some Down) fs)
+    (cond (bytes_eq w poll) (no_field None (Some Poll) fs)
+    (cond (bytes_eq w sweep) (no_field None (Some Sweep) fs)
+    (cond (bytes_eq w off) (no_field None (Some Off) fs)
+    (cond (bytes_eq w ra) (ra_of room fs)
+    (cond (bytes_eq w start) (start_of fs)
+    (cond (bytes_eq w fill) (fill_of fs)
+    (cond (bytes_eq w remove) (remove_of fs) None))))))))
 
-abbrev pub kind_in : ℕ → List Field → Read
-kind_in room [] = Bad
+abbrev pub kind_in : ℕ → List Field → Option Event
+kind_in room [] = None
 kind_in room (w ∷ fs) = kind_of room w fs
 
 -- "Each line begins with its time"
-abbrev pub parsed_with : Number → Read → Parsed
-parsed_with (Num t) (Good e) = At t e
-parsed_with (Num t) Bad = NoLine
-parsed_with NoNum r = NoLine
+abbrev pub parsed_with : Option ℕ → Option Event → Option (ℕ × Event)
+parsed_with (Some t) (Some e) = Some (t, e)
+parsed_with (Some t) None = None
+parsed_with None r = None
 
-abbrev pub parsed_of : ℕ → List Field → Parsed
-parsed_of room [] = NoLine
+abbrev pub parsed_of : ℕ → List Field → Option (ℕ × Event)
+parsed_of room [] = None
 parsed_of room (t ∷ fs) = parsed_with (number_of t) (kind_in room fs)
 
 -- The bytes of an advertisement
 
-abbrev pub bytes_with : Address → List ℕ → List ℕ
-bytes_with (Addr a) bs = bs
-bytes_with NoAddr bs = []
+abbrev pub bytes_with : Option Ipv6Addr → List ℕ → List ℕ
+bytes_with (Some a) bs = bs
+bytes_with None bs = []
 
 abbrev pub message_bytes : ℕ → Field → List ℕ
 message_bytes room m = bytes_of (message_of room m) m
@@ -98,11 +89,11 @@ ra_bytes room [] = []
 ra_bytes room (a ∷ fs) = bytes_with (address_of a) (last_field [] (message_bytes room) fs)
 
 abbrev pub kind_bytes : ℕ → Field → List Field → List ℕ
-kind_bytes room w fs = cond (same_bytes_is w ra) (ra_bytes room fs) []
+kind_bytes room w fs = cond (bytes_eq w ra) (ra_bytes room fs) []
 
-abbrev pub bytes_after : Number → List ℕ → List ℕ
-bytes_after (Num t) bs = bs
-bytes_after NoNum bs = []
+abbrev pub bytes_after : Option ℕ → List ℕ → List ℕ
+bytes_after (Some t) bs = bs
+bytes_after None bs = []
 
 abbrev pub kind_bytes_in : ℕ → List Field → List ℕ
 kind_bytes_in room [] = []
@@ -128,39 +119,39 @@ message_len_is (Remove a) = 0
 abbrev pub ReadyEvent : List ℕ → List ℕ → Event → Type 0
 ReadyEvent message bs e = (message_len_is e ≤ length message) × (take (message_len_is e) message ≡ bs)
 
-abbrev pub ReadyRead : List ℕ → List ℕ → Read → Type 0
-ReadyRead message bs (Good e) = ReadyEvent message bs e
-ReadyRead message bs Bad = Unit {0}
+abbrev pub ReadyRead : List ℕ → List ℕ → Option Event → Type 0
+ReadyRead message bs (Some e) = ReadyEvent message bs e
+ReadyRead message bs None = Unit {0}
 
-abbrev pub Ready : List ℕ → List ℕ → Parsed → Type 0
-Ready message bs (At t e) = ReadyEvent message bs e
-Ready message bs NoLine = Unit {0}
+abbrev pub Ready : List ℕ → List ℕ → Option (ℕ × Event) → Type 0
+Ready message bs (Some p) = ReadyEvent message bs p.1
+Ready message bs None = Unit {0}
 
 -- no advertisement
-abbrev pub Silent : Read → Type 0
-Silent (Good e) = message_len_is e ≡ 0
-Silent Bad = Unit {0}
+abbrev pub Silent : Option Event → Type 0
+Silent (Some e) = message_len_is e ≡ 0
+Silent None = Unit {0}
 
 -- the kinds that are one word
-abbrev pub word_of : Field → Read
+abbrev pub word_of : Field → Option Event
 word_of s =
-    cond (same_bytes_is s up) (Good Up)
-    (cond (same_bytes_is s down) (Good Down)
-    (cond (same_bytes_is s poll) (Good Poll)
-    (cond (same_bytes_is s sweep) (Good Sweep)
-    (cond (same_bytes_is s off) (Good Off) Bad))))
+    cond (bytes_eq s up) (Some Up)
+    (cond (bytes_eq s down) (Some Down)
+    (cond (bytes_eq s poll) (Some Poll)
+    (cond (bytes_eq s sweep) (Some Sweep)
+    (cond (bytes_eq s off) (Some Off) None))))
 
-pub record RaTo (s message : List ℕ) (r : Read) (message' : List ℕ) : Type 0 where
+pub record RaTo (s message : List ℕ) (r : Option Event) (message' : List ℕ) : Type 0 where
   pub is : r ≡ ra_of (length message) (fields s)
   pub bytes : message' ≡ filled message (ra_bytes (length message) (fields s))
   pub ready : ReadyRead message' (ra_bytes (length message) (fields s)) r
 
-pub record KindTo (s message : List ℕ) (r : Read) (message' : List ℕ) : Type 0 where
+pub record KindTo (s message : List ℕ) (r : Option Event) (message' : List ℕ) : Type 0 where
   pub is : r ≡ kind_in (length message) (fields s)
   pub bytes : message' ≡ filled message (kind_bytes_in (length message) (fields s))
   pub ready : ReadyRead message' (kind_bytes_in (length message) (fields s)) r
 
-pub record ParsedTo (line message : List ℕ) (r : Parsed) (message' : List ℕ) : Type 0 where
+pub record ParsedTo (line message : List ℕ) (r : Option (ℕ × Event)) (message' : List ℕ) : Type 0 where
   pub is : r ≡ parsed_of (length message) (fields line)
   pub bytes : message' ≡ filled message (parsed_bytes (length message) (fields line))
   pub ready : Ready message' (parsed_bytes (length message) (fields line)) r

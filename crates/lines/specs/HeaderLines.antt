@@ -1,34 +1,29 @@
 -- The header lines `mac HARDWARE`, `addresses N`, `ADDRESS LENGTH` and `events N`, by their fields. Assumes nothing.
-use Rattle.std.specs.Prelude.{cond, List, [], ◌∷◌, ltb}
-use Rattle.wire.specs.Rfc4291.{same_bytes_is}
+use Rattle.std.specs.Prelude.{ℕ, cond, List, [], ◌∷◌, ltb, Option, Some, None}
+use Rattle.std.specs.Str.{bytes_eq}
+use Rattle.wire.specs.declared.ethernet.HardwareAddress.{HardwareAddress}
+use Rattle.wire.specs.declared.ipv6.Ipv6Addr.{Ipv6Addr}
+use Rattle.wire.specs.declared.ipv6.Ipv6Cidr.{Ipv6Cidr}
 use Rattle.text.specs.Fields.{Field}
 use Rattle.text.specs.Decimal.{number_of}
 use Rattle.text.specs.Addresses.{address_of, hardware_of}
-use Rattle.text.specs.declared.number.Number.{Number}
-use Rattle.text.specs.declared.number.Number.TheVariants.{Value as Num, Bad as NoNum}
-use Rattle.text.specs.declared.address.Address.{Address}
-use Rattle.text.specs.declared.address.Address.TheVariants.{Value as Addr, Bad as NoAddr}
-use Rattle.text.specs.declared.address.Hardware.{Hardware}
-use Rattle.text.specs.declared.address.Hardware.TheVariants.{Bad as NoHw}
-use Rattle.lines.specs.declared.header.Static.{Static}
-use Rattle.lines.specs.declared.header.Static.TheVariants.{Value as Stat, Bad as NoStat}
 use Rattle.lines.specs.Words.{mac, last_field}
 
-abbrev pub mac_of : List Field → Hardware
-mac_of [] = NoHw
-mac_of (w ∷ fs) = cond (same_bytes_is w mac) (last_field NoHw hardware_of fs) NoHw
+abbrev pub mac_of : List Field → Option HardwareAddress
+mac_of [] = None
+mac_of (w ∷ fs) = cond (bytes_eq w mac) (last_field None hardware_of fs) None
 
 -- the number after a word
-abbrev pub count_of : Field → List Field → Number
-count_of word [] = NoNum
-count_of word (w ∷ fs) = cond (same_bytes_is w word) (last_field NoNum number_of fs) NoNum
+abbrev pub count_of : Field → List Field → Option ℕ
+count_of word [] = None
+count_of word (w ∷ fs) = cond (bytes_eq w word) (last_field None number_of fs) None
 
 -- a length above 255 is above 128, for which the address table would refuse the line
-abbrev pub static_with : Address → Number → Static
-static_with (Addr a) (Num k) = cond (ltb 255 k) NoStat (Stat (record { address = a; prefix_len = k }))
-static_with (Addr a) NoNum = NoStat
-static_with NoAddr k = NoStat
+abbrev pub static_with : Option Ipv6Addr → Option ℕ → Option Ipv6Cidr
+static_with (Some a) (Some k) = cond (ltb 255 k) None (Some (record { address = a; prefix_len = k }))
+static_with (Some a) None = None
+static_with None k = None
 
-abbrev pub static_of : List Field → Static
-static_of [] = NoStat
-static_of (a ∷ fs) = static_with (address_of a) (last_field NoNum number_of fs)
+abbrev pub static_of : List Field → Option Ipv6Cidr
+static_of [] = None
+static_of (a ∷ fs) = static_with (address_of a) (last_field None number_of fs)

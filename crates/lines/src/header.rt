@@ -3,70 +3,48 @@ ghost use Rattle.std.specs.Prelude.{◌≡◌};
 ghost use Rattle.text.specs.Fields.{fields};
 ghost use Rattle.lines.specs.HeaderLines.{mac_of, count_of, static_of};
 
-use text::address::{Address, Hardware, read_address, read_hardware};
-use text::number::{Number, read_number};
-use text::scan::{is, space};
+use text::address::{read_address, read_hardware};
+use text::number::read_number;
+use text::scan::split;
+use wire::ethernet::HardwareAddress;
 use wire::ipv6::Ipv6Cidr;
 
-const BYTE_MAX: u64 = 255;
-
-#[derive(Clone, Copy)]
-pub enum Static {
-    Value(Ipv6Cidr),
-    Bad,
-}
-
 // `mac HARDWARE`
-pub fn mac(line: &[u8]) -> Hardware
+#[tactic(auto, using(crate::proofs::LineLaws::mac_one, crate::proofs::LineLaws::last_hardware))]
+pub fn mac(line: &[u8]) -> Option<HardwareAddress>
     ensures { result ≡ mac_of (fields line.now) }
 {
-    let end = space(line);
-    if end == line.len() {
-        return Hardware::Bad;
-    }
-    if is(&line[..end], b"mac") {
-        read_hardware(&line[end + 1..])
+    let (first, rest) = split(line)?;
+    if first == b"mac".as_slice() {
+        read_hardware(rest)
     } else {
-        Hardware::Bad
+        None
     }
 }
 
 // `WORD N`
-pub fn counted(line: &[u8], word: &[u8]) -> Number
+#[tactic(auto, using(crate::proofs::LineLaws::count_one, crate::proofs::LineLaws::last_number))]
+pub fn counted(line: &[u8], word: &[u8]) -> Option<u64>
     ensures { result ≡ count_of word.now (fields line.now) }
 {
-    let end = space(line);
-    if end == line.len() {
-        return Number::Bad;
-    }
-    if is(&line[..end], word) {
-        read_number(&line[end + 1..])
+    let (first, rest) = split(line)?;
+    if first == word {
+        read_number(rest)
     } else {
-        Number::Bad
+        None
     }
 }
 
 // `ADDRESS LENGTH`. A length that is no byte is above 128, and so is bad by the table's refusal too.
-pub fn address_line(line: &[u8]) -> Static
+#[tactic(auto, using(crate::proofs::LineLaws::static_one, crate::proofs::LineLaws::last_number))]
+pub fn address_line(line: &[u8]) -> Option<Ipv6Cidr>
     ensures { result ≡ static_of (fields line.now) }
 {
-    let end = space(line);
-    if end == line.len() {
-        return Static::Bad;
-    }
-    match read_address(&line[..end]) {
-        Address::Value(addr) => match read_number(&line[end + 1..]) {
-            Number::Value(prefix_len) => {
-                if prefix_len > BYTE_MAX {
-                    return Static::Bad;
-                }
-                Static::Value(Ipv6Cidr {
-                    address: addr,
-                    prefix_len: prefix_len as u8,
-                })
-            }
-            Number::Bad => Static::Bad,
-        },
-        Address::Bad => Static::Bad,
-    }
+    let (address, prefix_len) = split(line)?;
+    let address = read_address(address)?;
+    let prefix_len = u8::try_from(read_number(prefix_len)?).ok()?;
+    Some(Ipv6Cidr {
+        address,
+        prefix_len,
+    })
 }

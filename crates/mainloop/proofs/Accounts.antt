@@ -6,18 +6,16 @@ use mathlib.Core.Bool.{Bool, true, false, cond, true≢false}
 use mathlib.Core.List.{List, [], ◌∷◌, ◌++◌, append-nil}
 use mathlib.Core.Path.{◌≡◌, refl, sym, ap, ◌∙◌}
 use native.Mathlib.Omega.{arith}
+use Rattle.std.specs.Prelude.{Result, Ok, Err, Some, None}
+use Rattle.wire.specs.declared.error.Refusal.{Refusal}
 use Rattle.table.proofs.Kept.{kept_law}
 use Rattle.table.specs.Table.{any_of, at_first_is, kept, fold_over}
 use Rattle.time.specs.declared.Instant.{Instant}
-use Rattle.wire.specs.declared.error.Check.{Check}
-use Rattle.wire.specs.declared.error.Check.TheVariants.{Fine, Refused as Fails}
-use Rattle.wire.specs.declared.error.Outcome.{Outcome}
-use Rattle.wire.specs.declared.error.Outcome.TheVariants.{Refused as NotDone, Done}
 use Rattle.wire.specs.declared.ethernet.HardwareAddress.{HardwareAddress}
 use Rattle.wire.specs.declared.ipv6.Ipv6Addr.{Ipv6Addr}
 use Rattle.wire.specs.Refusals.{time_check, key_check, decided}
 use Rattle.neighbor.specs.declared.Answer.{Answer as Known}
-use Rattle.neighbor.specs.declared.Answer.TheVariants.{Refused as NotAsked, Found, Pending, NotFound}
+use Rattle.neighbor.specs.declared.Answer.TheVariants.{Found, Pending, NotFound}
 use Rattle.neighbor.specs.declared.NeighborCache.{NeighborCache}
 use Rattle.neighbor.specs.CacheCalls.{entries, key, lookup_by}
 use Rattle.neighbor.specs.NeighborRules.{Key}
@@ -25,7 +23,6 @@ use Rattle.pending.proofs.Calls.{packets_of}
 use Rattle.pending.proofs.Count.{accounted}
 use Rattle.pending.specs.declared.PendingPacket.{PendingPacket}
 use Rattle.pending.specs.declared.PendingQueue.{PendingQueue}
-use Rattle.pending.specs.declared.Push.TheVariants.{Queued, Dropped}
 use Rattle.pending.specs.QueueRules.{Queue, packet, has_key, gone, is_full, oldest, push_list, push_answer, release_list, orphaned, dropped_handles}
 use Rattle.pending.specs.QueueCalls.{packets, with_packets, handles_of, push_number, pushed_out, purged_of}
 use Rattle.pending.specs.QueueCount.{count_of, waiting}
@@ -113,7 +110,7 @@ push_taken : (x : Card) (addr : Ipv6Addr) (handle : ℕ) → push_number (push_o
 unfolding push_of push_answer
 push_taken x addr handle = go (is_full 8 (packets x.queue))
   where
-    go : (full : Bool) → push_number (cond full (Dropped (oldest (packets x.queue))) Queued) ≡ 0
+    go : (full : Bool) → push_number (cond full (Ok (Some (oldest (packets x.queue)))) (Ok None)) ≡ 0
     go true = refl
     go false = refl
 
@@ -122,31 +119,31 @@ abbrev Counts : ℕ → Card → Input → Taken → Type 0
 Counts h x input r =
     waits h x + count_of h (comes input) ≡ waits h r.card + (count_of h (listed r.ready) + count_of h (handed_back input r.action))
 
-send_counts : (h : ℕ) (known : Known) (x : Card) (addr : Ipv6Addr) (handle : ℕ) → Counts h x (Packet addr handle) (sent_by known x addr handle)
-send_counts h (NotAsked why) x addr handle = omega arith
-send_counts h (Found hw) x addr handle = omega arith
-send_counts h Pending x addr handle = omega (arith, push_counts h x addr handle)
-send_counts h NotFound x addr handle = omega (arith, push_counts h x addr handle)
+send_counts : (h : ℕ) (known : Result Known Refusal) (x : Card) (addr : Ipv6Addr) (handle : ℕ) → Counts h x (Packet addr handle) (sent_by known x addr handle)
+send_counts h (Err why) x addr handle = omega arith
+send_counts h (Ok (Found hw)) x addr handle = omega arith
+send_counts h (Ok Pending) x addr handle = omega (arith, push_counts h x addr handle)
+send_counts h (Ok NotFound) x addr handle = omega (arith, push_counts h x addr handle)
 
-answer_counts : (h : ℕ) (o : Outcome) (x : Card) (addr : Ipv6Addr) (hw : HardwareAddress) (c : NeighborCache) → Sized x
+answer_counts : (h : ℕ) (o : Result (Unit {0}) Refusal) (x : Card) (addr : Ipv6Addr) (hw : HardwareAddress) (c : NeighborCache) → Sized x
     → Counts h x (NeighborAdvert addr hw) (filled_by o x addr hw c)
-answer_counts h (NotDone why) x addr hw c full = refl
-answer_counts h Done x addr hw c full = omega (arith, ready_counts (key 0 addr) h x.queue full)
+answer_counts h (Err why) x addr hw c full = refl
+answer_counts h (Ok tt) x addr hw c full = omega (arith, ready_counts (key 0 addr) h x.queue full)
 
-learn_counts : (h : ℕ) (known : Known) (x : Card) (addr : Ipv6Addr) (hw : HardwareAddress) (now : Instant) → Sized x
+learn_counts : (h : ℕ) (known : Result Known Refusal) (x : Card) (addr : Ipv6Addr) (hw : HardwareAddress) (now : Instant) → Sized x
     → Counts h x (NeighborAdvert addr hw) (learned_by known x addr hw now)
 unfolding filled
-learn_counts h (NotAsked why) x addr hw now full = refl
-learn_counts h NotFound x addr hw now full = refl
-learn_counts h Pending x addr hw now full = answer_counts h (fill_of x addr hw now).outcome x addr hw (fill_of x addr hw now).cache full
-learn_counts h (Found old) x addr hw now full = answer_counts h (fill_of x addr hw now).outcome x addr hw (fill_of x addr hw now).cache full
+learn_counts h (Err why) x addr hw now full = refl
+learn_counts h (Ok NotFound) x addr hw now full = refl
+learn_counts h (Ok Pending) x addr hw now full = answer_counts h (fill_of x addr hw now).outcome x addr hw (fill_of x addr hw now).cache full
+learn_counts h (Ok (Found old)) x addr hw now full = answer_counts h (fill_of x addr hw now).outcome x addr hw (fill_of x addr hw now).cache full
 
-hear_counts : (h : ℕ) (known : Known) (x : Card) (source : Ipv6Addr) (answer : AdvertAnswer) → Sized x
+hear_counts : (h : ℕ) (known : Result Known Refusal) (x : Card) (source : Ipv6Addr) (answer : Result AdvertAnswer Refusal) → Sized x
     → Counts h x (RouterAdvert source) (heard_by known x source answer)
-hear_counts h (NotAsked why) x source answer full = refl
-hear_counts h (Found hw) x source answer full = omega (arith, ready_counts (key 0 source) h x.queue full)
-hear_counts h Pending x source answer full = refl
-hear_counts h NotFound x source answer full = refl
+hear_counts h (Err why) x source answer full = refl
+hear_counts h (Ok (Found hw)) x source answer full = omega (arith, ready_counts (key 0 source) h x.queue full)
+hear_counts h (Ok Pending) x source answer full = refl
+hear_counts h (Ok NotFound) x source answer full = refl
 
 input_counts : (h : ℕ) (x : Card) (input : Input) (message : List ℕ) (now : Instant) → Sized x → Counts h x input (taken_in x input message now)
 unfolding heard learned sent
@@ -158,9 +155,9 @@ input_counts h x (RouterAdvert source) message now full =
 input_counts h x (NeighborAdvert addr hw) message now full = learn_counts h (lookup_by (key_check 0 addr) x.cache (key 0 addr)) x addr hw now full
 input_counts h x (Packet addr handle) message now full = send_counts h (lookup_by (key_check 0 addr) x.cache (key 0 addr)) x addr handle
 
-by_check_counts : (h : ℕ) (check : Check) (x : Card) (input : Input) (message : List ℕ) (now : Instant) → Sized x → Counts h x input (taken_by check x input message now)
-by_check_counts h (Fails why) x input message now full = omega arith
-by_check_counts h Fine x input message now full = input_counts h x input message now full
+by_check_counts : (h : ℕ) (check : Result (Unit {0}) Refusal) (x : Card) (input : Input) (message : List ℕ) (now : Instant) → Sized x → Counts h x input (taken_by check x input message now)
+by_check_counts h (Err why) x input message now full = omega arith
+by_check_counts h (Ok tt) x input message now full = input_counts h x input message now full
 
 take_counts : (h : ℕ) (x : Card) (input : Input) (message : List ℕ) (now : Instant) → Sized x → Counts h x input (taken x input message now)
 take_counts h x input message now full = by_check_counts h (time_check now 0) x input message now full
@@ -179,12 +176,12 @@ settle_counts : (h : ℕ) (x : Card) (up : Bool) (hw : HardwareAddress) (buf : L
 unfolding settled
 settle_counts h x up hw buf now = go (time_check now 0)
   where
-    go : (check : Check)
+    go : (check : Result (Unit {0}) Refusal)
         → waits h x
         ≡ waits h (decided check (not_settled x) (settled_after x (poll_of x up hw buf now))).card
         + count_of h (listed (decided check (not_settled x) (settled_after x (poll_of x up hw buf now))).dropped)
-    go (Fails why) = omega arith
-    go Fine = purge_counts h x.queue (orphaned (entries (last_sweep x (poll_of x up hw buf now)).cache))
+    go (Err why) = omega arith
+    go (Ok tt) = purge_counts h x.queue (orphaned (entries (last_sweep x (poll_of x up hw buf now)).cache))
 
 turn_counts : (h : ℕ) (x : Card) (received : List ℕ) (hw : HardwareAddress) (buf : List ℕ) (w : Woken) → Sized x
     → waits h x + count_of h (comes w.input) ≡ waits h (turned received hw x buf w).card + given_out h w (turned received hw x buf w).report
@@ -225,30 +222,30 @@ push_sized x addr handle full =
     with_sized x.queue (push_list 8 (packet (key 0 addr) handle) (packets x.queue)) full
     (accounted.room 8 (packet (key 0 addr) handle) (packets x.queue) (omega arith) (room x.queue full))
 
-send_sized : (known : Known) (x : Card) (addr : Ipv6Addr) (handle : ℕ) → Sized x → Sized (sent_by known x addr handle).card
-send_sized (NotAsked why) x addr handle full = full
-send_sized (Found hw) x addr handle full = full
-send_sized Pending x addr handle full = push_sized x addr handle full
-send_sized NotFound x addr handle full = push_sized x addr handle full
+send_sized : (known : Result Known Refusal) (x : Card) (addr : Ipv6Addr) (handle : ℕ) → Sized x → Sized (sent_by known x addr handle).card
+send_sized (Err why) x addr handle full = full
+send_sized (Ok (Found hw)) x addr handle full = full
+send_sized (Ok Pending) x addr handle full = push_sized x addr handle full
+send_sized (Ok NotFound) x addr handle full = push_sized x addr handle full
 
-answer_sized : (o : Outcome) (x : Card) (addr : Ipv6Addr) (hw : HardwareAddress) (c : NeighborCache) → Sized x → Sized (filled_by o x addr hw c).card
+answer_sized : (o : Result (Unit {0}) Refusal) (x : Card) (addr : Ipv6Addr) (hw : HardwareAddress) (c : NeighborCache) → Sized x → Sized (filled_by o x addr hw c).card
 unfolding ready_of
-answer_sized (NotDone why) x addr hw c full = full
-answer_sized Done x addr hw c full = releases_sized 8 (key 0 addr) x.queue full
+answer_sized (Err why) x addr hw c full = full
+answer_sized (Ok tt) x addr hw c full = releases_sized 8 (key 0 addr) x.queue full
 
-learn_sized : (known : Known) (x : Card) (addr : Ipv6Addr) (hw : HardwareAddress) (now : Instant) → Sized x → Sized (learned_by known x addr hw now).card
+learn_sized : (known : Result Known Refusal) (x : Card) (addr : Ipv6Addr) (hw : HardwareAddress) (now : Instant) → Sized x → Sized (learned_by known x addr hw now).card
 unfolding filled
-learn_sized (NotAsked why) x addr hw now full = full
-learn_sized NotFound x addr hw now full = full
-learn_sized Pending x addr hw now full = answer_sized (fill_of x addr hw now).outcome x addr hw (fill_of x addr hw now).cache full
-learn_sized (Found old) x addr hw now full = answer_sized (fill_of x addr hw now).outcome x addr hw (fill_of x addr hw now).cache full
+learn_sized (Err why) x addr hw now full = full
+learn_sized (Ok NotFound) x addr hw now full = full
+learn_sized (Ok Pending) x addr hw now full = answer_sized (fill_of x addr hw now).outcome x addr hw (fill_of x addr hw now).cache full
+learn_sized (Ok (Found old)) x addr hw now full = answer_sized (fill_of x addr hw now).outcome x addr hw (fill_of x addr hw now).cache full
 
-hear_sized : (known : Known) (x : Card) (source : Ipv6Addr) (answer : AdvertAnswer) → Sized x → Sized (heard_by known x source answer).card
+hear_sized : (known : Result Known Refusal) (x : Card) (source : Ipv6Addr) (answer : Result AdvertAnswer Refusal) → Sized x → Sized (heard_by known x source answer).card
 unfolding ready_of
-hear_sized (NotAsked why) x source answer full = full
-hear_sized (Found hw) x source answer full = releases_sized 8 (key 0 source) x.queue full
-hear_sized Pending x source answer full = full
-hear_sized NotFound x source answer full = full
+hear_sized (Err why) x source answer full = full
+hear_sized (Ok (Found hw)) x source answer full = releases_sized 8 (key 0 source) x.queue full
+hear_sized (Ok Pending) x source answer full = full
+hear_sized (Ok NotFound) x source answer full = full
 
 input_sized : (x : Card) (input : Input) (message : List ℕ) (now : Instant) → Sized x → Sized (taken_in x input message now).card
 unfolding heard learned sent
@@ -260,17 +257,17 @@ input_sized x (RouterAdvert source) message now full =
 input_sized x (NeighborAdvert addr hw) message now full = learn_sized (lookup_by (key_check 0 addr) x.cache (key 0 addr)) x addr hw now full
 input_sized x (Packet addr handle) message now full = send_sized (lookup_by (key_check 0 addr) x.cache (key 0 addr)) x addr handle full
 
-take_sized : (check : Check) (x : Card) (input : Input) (message : List ℕ) (now : Instant) → Sized x → Sized (taken_by check x input message now).card
-take_sized (Fails why) x input message now full = full
-take_sized Fine x input message now full = input_sized x input message now full
+take_sized : (check : Result (Unit {0}) Refusal) (x : Card) (input : Input) (message : List ℕ) (now : Instant) → Sized x → Sized (taken_by check x input message now).card
+take_sized (Err why) x input message now full = full
+take_sized (Ok tt) x input message now full = input_sized x input message now full
 
 settle_sized : (x : Card) (up : Bool) (hw : HardwareAddress) (buf : List ℕ) (now : Instant) → Sized x → Sized (settled x up hw buf now).card
 unfolding settled
 settle_sized x up hw buf now full = go (time_check now 0)
   where
-    go : (check : Check) → Sized (decided check (not_settled x) (settled_after x (poll_of x up hw buf now))).card
-    go (Fails why) = full
-    go Fine = purge_sized x.queue (orphaned (entries (last_sweep x (poll_of x up hw buf now)).cache)) full
+    go : (check : Result (Unit {0}) Refusal) → Sized (decided check (not_settled x) (settled_after x (poll_of x up hw buf now))).card
+    go (Err why) = full
+    go (Ok tt) = purge_sized x.queue (orphaned (entries (last_sweep x (poll_of x up hw buf now)).cache)) full
 
 turn_sized : (x : Card) (received : List ℕ) (hw : HardwareAddress) (buf : List ℕ) (w : Woken) → Sized x → Sized (turned received hw x buf w).card
 unfolding turned

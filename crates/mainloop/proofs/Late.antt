@@ -4,10 +4,10 @@ use borrow.Author.Tests.{lt-ltb}
 use mathlib.Core.Bool.{Bool}
 use mathlib.Core.List.{List}
 use mathlib.Core.Path.{◌≡◌, ap, ◌∙◌}
+use Rattle.std.specs.Prelude.{Result, Err}
+use Rattle.wire.specs.declared.error.Refusal.{Refusal}
 use Rattle.time.specs.declared.Instant.{Instant}
 use Rattle.time.specs.ClockRules.{idle}
-use Rattle.wire.specs.declared.error.Check.{Check}
-use Rattle.wire.specs.declared.error.Check.TheVariants.{Refused as Fails}
 use Rattle.wire.specs.declared.error.Refusal.TheVariants.{TooLate}
 use Rattle.wire.specs.declared.ethernet.HardwareAddress.{HardwareAddress}
 use Rattle.wire.specs.Refusals.{time_check, decided}
@@ -19,20 +19,20 @@ use Rattle.mainloop.specs.Late.{Late}
 use Rattle.mainloop.specs.LoopRules.{not_taken_is, taken_by, taken, poll_of, buffer_after, settled_after, not_settled, settled, taken_of, turn_after, turn_by, turned, turn_buffer}
 
 module _ (x : Card) (now : Instant) (late : 2 ^ 62 < now.0) where
-  late_time : time_check now 0 ≡ Fails TooLate
+  late_time : time_check now 0 ≡ Err TooLate
   late_time = simp (lt-ltb (2 ^ 62) now.0 late)
 
   none_taken : (input : Input) (message : List ℕ) → taken x input message now ≡ not_taken_is x TooLate
-  none_taken input message = ap (λ (check : Check). taken_by check x input message now) late_time
+  none_taken input message = ap (λ (check : Result (Unit {0}) Refusal). taken_by check x input message now) late_time
 
   module _ (up : Bool) (hw : HardwareAddress) (buf : List ℕ) where
     none_settled : settled x up hw buf now ≡ not_settled x TooLate
     unfolding settled
-    none_settled = ap (λ (check : Check). decided check (not_settled x) (settled_after x (poll_of x up hw buf now))) late_time
+    none_settled = ap (λ (check : Result (Unit {0}) Refusal). decided check (not_settled x) (settled_after x (poll_of x up hw buf now))) late_time
 
     same_buffer : buffer_after x up hw buf now ≡ buf
     unfolding buffer_after
-    same_buffer = ap (λ (check : Check). poll_buffer check x.slaac x.addrs up hw buf (idle now)) late_time
+    same_buffer = ap (λ (check : Result (Unit {0}) Refusal). poll_buffer check x.slaac x.addrs up hw buf (idle now)) late_time
 
 pub late : Late
 unfolding turned turn_buffer

@@ -1,8 +1,7 @@
 -- No packet is lost in a turn or a run and none comes out twice: as often as a handle waits or comes, it waits afterwards or is given out. Assumes nothing.
-use Rattle.std.specs.Prelude.{ℕ, ◌+◌, ◌≡◌, Bool, List, [], ◌∷◌, length, take}
+use Rattle.std.specs.Prelude.{ℕ, ◌+◌, ◌≡◌, Bool, List, [], ◌∷◌, length, take, Option}
 use Rattle.table.specs.Table.{kept}
 use Rattle.time.specs.declared.Instant.{Instant}
-use Rattle.time.specs.declared.Deadline.{Deadline}
 use Rattle.wire.specs.declared.ethernet.HardwareAddress.{HardwareAddress}
 use Rattle.wire.specs.declared.ipv6.Ipv6Addr.{Ipv6Addr}
 use Rattle.neighbor.specs.NeighborRules.{Key}
@@ -85,9 +84,9 @@ pub record Accounts : Type 0 where
   -- and leaves the array its size
   pub sized : (x : Card) (received : List ℕ) (hw : HardwareAddress) (buf : List ℕ) (w : Woken) → Sized x → Sized (turned received hw x buf w).card
   -- A run is its turns: each input within the budget has its report, and the account is right over all of them.
-  pub reports : (x : Card) (wake : Deadline) (inbox : Inbox) (received : List ℕ) (hw : HardwareAddress) (buf : List ℕ) (budget : ℕ)
+  pub reports : (x : Card) (wake : Option Instant) (inbox : Inbox) (received : List ℕ) (hw : HardwareAddress) (buf : List ℕ) (budget : ℕ)
       → length (run_over x wake inbox received hw buf budget).reports ≡ length (take budget (inputs_of inbox))
-  pub runs : (h : ℕ) (x : Card) (wake : Deadline) (inbox : Inbox) (received : List ℕ) (hw : HardwareAddress) (buf : List ℕ) (budget : ℕ) → Sized x
+  pub runs : (h : ℕ) (x : Card) (wake : Option Instant) (inbox : Inbox) (received : List ℕ) (hw : HardwareAddress) (buf : List ℕ) (budget : ℕ) → Sized x
       → waits h x + came_in h (take budget (inputs_of inbox))
       ≡ waits h (run_over x wake inbox received hw buf budget).card
       + given_out_in h (take budget (inputs_of inbox)) (run_over x wake inbox received hw buf budget).reports

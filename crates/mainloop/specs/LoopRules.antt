@@ -1,22 +1,16 @@
 -- The turns of a card's main loop, each the calls of the library one after another. Assumes nothing.
-use Rattle.std.specs.Prelude.{ℕ, zero, suc, ◌≡◌, Bool, List, [], ◌∷◌, ◌++◌, length, take, drop, replicate}
+use Rattle.std.specs.Prelude.{ℕ, zero, suc, ◌≡◌, Bool, List, [], ◌∷◌, ◌++◌, length, take, drop, replicate, Option, None, Result, Ok, Err}
 use Rattle.table.specs.Table.{fold_over, filled as filledSlots}
 use Rattle.time.specs.declared.Instant.{Instant}
 use Rattle.time.specs.declared.Clock.{Clock}
-use Rattle.time.specs.declared.Deadline.{Deadline}
-use Rattle.time.specs.declared.Deadline.TheVariants.{None}
 use Rattle.time.specs.ClockRules.{idle}
-use Rattle.wire.specs.declared.error.Check.{Check}
-use Rattle.wire.specs.declared.error.Check.TheVariants.{Fine}
-use Rattle.wire.specs.declared.error.Outcome.{Outcome}
-use Rattle.wire.specs.declared.error.Outcome.TheVariants.{Refused as NotDone, Done}
 use Rattle.wire.specs.declared.error.Refusal.{Refusal}
 use Rattle.wire.specs.declared.ethernet.HardwareAddress.{HardwareAddress}
 use Rattle.wire.specs.declared.ipv6.Ipv6Addr.{Ipv6Addr}
 use Rattle.wire.specs.Refusals.{iface_check, time_check, key_check, fill_check, decided}
 use Rattle.neighbor.specs.declared.State.TheVariants.{Started}
 use Rattle.neighbor.specs.declared.Answer.{Answer as Known}
-use Rattle.neighbor.specs.declared.Answer.TheVariants.{Refused as NotAsked, Found, Pending, NotFound}
+use Rattle.neighbor.specs.declared.Answer.TheVariants.{Found, Pending, NotFound}
 use Rattle.neighbor.specs.declared.Changed.{Changed}
 use Rattle.neighbor.specs.declared.NeighborCache.{NeighborCache}
 use Rattle.neighbor.specs.NeighborRules.{Key, lasting}
@@ -32,7 +26,7 @@ use Rattle.slaac.specs.declared.Slaac.{Slaac}
 use Rattle.slaac.specs.DiscoveryRules.{restarted}
 use Rattle.autoconf.specs.declared.AdvertAnswer.{AdvertAnswer}
 use Rattle.autoconf.specs.declared.Advertised.{Advertised}
-use Rattle.autoconf.specs.declared.PollAnswer.TheVariants.{Refused as NotPolled, Quiet}
+use Rattle.autoconf.specs.declared.PollAnswer.TheVariants.{Quiet}
 use Rattle.autoconf.specs.declared.PolledAt.{PolledAt}
 use Rattle.autoconf.specs.AdvertRules.{call_by}
 use Rattle.autoconf.specs.PollRules.{poll_by, poll_buffer, PolledTo}
@@ -81,12 +75,12 @@ push_of x addr handle = push_by (iface_check 0) x.queue (packet (key 0 addr) han
 unfoldable pub start_of : Card → Ipv6Addr → Changed
 start_of x addr = change_by (key_check 0 addr) x.cache (put_in x.cache (key 0 addr) Started)
 
-abbrev pub sent_by : Known → Card → Ipv6Addr → ℕ → Taken
-sent_by (NotAsked why) x addr handle = taken_as_is x (Refused why) []
-sent_by (Found hw) x addr handle = taken_as_is x (Send hw) (handle ∷ [])
-sent_by Pending x addr handle =
+abbrev pub sent_by : Result Known Refusal → Card → Ipv6Addr → ℕ → Taken
+sent_by (Err why) x addr handle = taken_as_is x (Refused why) []
+sent_by (Ok (Found hw)) x addr handle = taken_as_is x (Send hw) (handle ∷ [])
+sent_by (Ok Pending) x addr handle =
     taken_as_is (card_with x x.slaac x.cache (push_of x addr handle).queue) (Wait (push_of x addr handle).answer) []
-sent_by NotFound x addr handle =
+sent_by (Ok NotFound) x addr handle =
     taken_as_is (card_with x x.slaac (start_of x addr).cache (push_of x addr handle).queue) (Solicit (push_of x addr handle).answer) []
 
 unfoldable pub sent : Card → Ipv6Addr → ℕ → Taken
@@ -100,9 +94,9 @@ fill_of x addr hw now = change_by (fill_check now 0 addr hw) x.cache (put_in x.c
 abbrev pub goes_to : Card → Action → NeighborCache → Ready → Taken
 goes_to x action c r = record { card = card_with x x.slaac c r.queue; action = action; ready = r.handles }
 
-abbrev pub filled_by : Outcome → Card → Ipv6Addr → HardwareAddress → NeighborCache → Taken
-filled_by (NotDone why) x addr hw c = taken_as_is x (Refused why) []
-filled_by Done x addr hw c = goes_to x (Send hw) c (ready_of (key 0 addr) x.queue)
+abbrev pub filled_by : Result (Unit {0}) Refusal → Card → Ipv6Addr → HardwareAddress → NeighborCache → Taken
+filled_by (Err why) x addr hw c = taken_as_is x (Refused why) []
+filled_by (Ok tt) x addr hw c = goes_to x (Send hw) c (ready_of (key 0 addr) x.queue)
 
 unfoldable pub filled : Card → Ipv6Addr → HardwareAddress → Instant → Taken
 filled x addr hw now = filled_by (fill_of x addr hw now).outcome x addr hw (fill_of x addr hw now).cache
@@ -110,22 +104,22 @@ filled x addr hw now = filled_by (fill_of x addr hw now).outcome x addr hw (fill
 -- RFC 4861 7.2.5: the answer of a neighbour without an entry is discarded. So it is, by what a lookup says, of one that is neither known nor
 -- looked for
 
-abbrev pub learned_by : Known → Card → Ipv6Addr → HardwareAddress → Instant → Taken
-learned_by (NotAsked why) x addr hw now = taken_as_is x (Refused why) []
-learned_by NotFound x addr hw now = taken_as_is x Nothing []
-learned_by Pending x addr hw now = filled x addr hw now
-learned_by (Found old) x addr hw now = filled x addr hw now
+abbrev pub learned_by : Result Known Refusal → Card → Ipv6Addr → HardwareAddress → Instant → Taken
+learned_by (Err why) x addr hw now = taken_as_is x (Refused why) []
+learned_by (Ok NotFound) x addr hw now = taken_as_is x Nothing []
+learned_by (Ok Pending) x addr hw now = filled x addr hw now
+learned_by (Ok (Found old)) x addr hw now = filled x addr hw now
 
 unfoldable pub learned : Card → Ipv6Addr → HardwareAddress → Instant → Taken
 learned x addr hw now = learned_by (lookup_by (key_check 0 addr) x.cache (key 0 addr)) x addr hw now
 
 -- An advertisement: where its router is then known as a neighbour, the router's packets are released
 
-abbrev pub heard_by : Known → Card → Ipv6Addr → AdvertAnswer → Taken
-heard_by (Found hw) x source answer = goes_to x (HeardFrom answer hw) x.cache (ready_of (key 0 source) x.queue)
-heard_by (NotAsked why) x source answer = taken_as_is x (Heard answer) []
-heard_by Pending x source answer = taken_as_is x (Heard answer) []
-heard_by NotFound x source answer = taken_as_is x (Heard answer) []
+abbrev pub heard_by : Result Known Refusal → Card → Ipv6Addr → Result AdvertAnswer Refusal → Taken
+heard_by (Ok (Found hw)) x source answer = goes_to x (HeardFrom answer hw) x.cache (ready_of (key 0 source) x.queue)
+heard_by (Err why) x source answer = taken_as_is x (Heard answer) []
+heard_by (Ok Pending) x source answer = taken_as_is x (Heard answer) []
+heard_by (Ok NotFound) x source answer = taken_as_is x (Heard answer) []
 
 abbrev pub heard_as : Card → Ipv6Addr → Advertised → Taken
 heard_as x source r =
@@ -147,7 +141,7 @@ taken_in x (Packet addr handle) message now = sent x addr handle
 abbrev pub not_taken_is : Card → Refusal → Taken
 not_taken_is x why = taken_as_is x (Refused why) []
 
-abbrev pub taken_by : Check → Card → Input → List ℕ → Instant → Taken
+abbrev pub taken_by : Result (Unit {0}) Refusal → Card → Input → List ℕ → Instant → Taken
 taken_by check x input message now = decided check (not_taken_is x) (taken_in x input message now)
 
 abbrev pub taken : Card → Input → List ℕ → Instant → Taken
@@ -200,7 +194,7 @@ settled_after x p = settled_by p (first_sweep x p) (last_sweep x p) (purge_after
 
 -- "A refusal returns its number and changes nothing.": no event, no packet that is handed back, no time to wake
 abbrev pub not_settled : Card → Refusal → Settled
-not_settled x why = record { card = x; answer = NotPolled why; events = events_table []; dropped = handles_of []; wake = None }
+not_settled x why = record { card = x; answer = Err why; events = events_table []; dropped = handles_of []; wake = None }
 
 unfoldable pub settled : Card → Bool → HardwareAddress → List ℕ → Instant → Settled
 settled x up hw buf now = decided (time_check now 0) (not_settled x) (settled_after x (poll_of x up hw buf now))
@@ -209,11 +203,11 @@ pub record SettledTo (x : Card) (up : Bool) (hw : HardwareAddress) (buf : List �
   pub is : r ≡ settled x up hw buf now
   pub leaves : buf' ≡ buffer_after x up hw buf now
   -- and at a time that is not refused each part keeps its promise
-  pub polls : time_check now 0 ≡ Fine → PolledTo x.slaac x.addrs x.routes 0 up hw buf (idle now) (poll_of x up hw buf now) buf'
-  pub sweeps : time_check now 0 ≡ Fine → SweptTo x.cache (poll_of x up hw buf now).clock 0 (first_sweep x (poll_of x up hw buf now))
-  pub sweeps_again : time_check now 0 ≡ Fine → SweptTo (first_sweep x (poll_of x up hw buf now)).cache (first_sweep x (poll_of x up hw buf now)).clock 0
+  pub polls : time_check now 0 ≡ Ok tt → PolledTo x.slaac x.addrs x.routes 0 up hw buf (idle now) (poll_of x up hw buf now) buf'
+  pub sweeps : time_check now 0 ≡ Ok tt → SweptTo x.cache (poll_of x up hw buf now).clock 0 (first_sweep x (poll_of x up hw buf now))
+  pub sweeps_again : time_check now 0 ≡ Ok tt → SweptTo (first_sweep x (poll_of x up hw buf now)).cache (first_sweep x (poll_of x up hw buf now)).clock 0
       (last_sweep x (poll_of x up hw buf now))
-  pub purges : time_check now 0 ≡ Fine → OrphansPurged x.queue (last_sweep x (poll_of x up hw buf now)).cache (purge_after x (poll_of x up hw buf now))
+  pub purges : time_check now 0 ≡ Ok tt → OrphansPurged x.queue (last_sweep x (poll_of x up hw buf now)).cache (purge_after x (poll_of x up hw buf now))
 
 -- A turn
 
@@ -257,11 +251,11 @@ inputs_of inbox = take inbox.len inbox.slots
 -- the card between two turns: until when it may sleep, the lent buffer, and the reports so far
 pub record Between : Type 0 where
   pub card : Card
-  pub wake : Deadline
+  pub wake : Option Instant
   pub buffer : List ℕ
   pub reports : List Report
 
-abbrev pub before : Card → Deadline → List ℕ → Between
+abbrev pub before : Card → Option Instant → List ℕ → Between
 before x wake buf = record { card = x; wake = wake; buffer = buf; reports = [] }
 
 abbrev pub after_turn : Between → Turned → List ℕ → Between
@@ -271,12 +265,12 @@ abbrev pub turn_in : List ℕ → HardwareAddress → Between → Woken → Betw
 turn_in received hw b w = after_turn b (turned received hw b.card b.buffer w) (turn_buffer received hw b.card b.buffer w)
 
 -- a turn for each input, in order, as far as the budget goes
-unfoldable pub run_over : Card → Deadline → Inbox → List ℕ → HardwareAddress → List ℕ → ℕ → Between
+unfoldable pub run_over : Card → Option Instant → Inbox → List ℕ → HardwareAddress → List ℕ → ℕ → Between
 run_over x wake inbox received hw buf budget = fold_over (turn_in received hw) (before x wake buf) (take budget (inputs_of inbox))
 
 -- what a slot without a report holds
 abbrev pub blank_report : Report
-blank_report = record { action = Nothing; ready = handles_of []; answer = Quiet; events = events_table []; dropped = handles_of [] }
+blank_report = record { action = Nothing; ready = handles_of []; answer = Ok Quiet; events = events_table []; dropped = handles_of [] }
 
 abbrev pub reports_of : List Report → Reports
 reports_of rs = record { slots = filledSlots (replicate 4 blank_report) rs; len = length rs }
@@ -284,7 +278,7 @@ reports_of rs = record { slots = filledSlots (replicate 4 blank_report) rs; len 
 abbrev pub ran_by : Between → Ran
 ran_by b = record { card = b.card; reports = reports_of b.reports; wake = b.wake }
 
-pub record RanTo (x : Card) (wake : Deadline) (inbox : Inbox) (received : List ℕ) (hw : HardwareAddress) (buf : List ℕ) (budget : ℕ) (r : Ran)
+pub record RanTo (x : Card) (wake : Option Instant) (inbox : Inbox) (received : List ℕ) (hw : HardwareAddress) (buf : List ℕ) (budget : ℕ) (r : Ran)
     (buf' : List ℕ) : Type 0 where
   pub is : r ≡ ran_by (run_over x wake inbox received hw buf budget)
   pub leaves : buf' ≡ (run_over x wake inbox received hw buf budget).buffer

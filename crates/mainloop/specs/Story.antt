@@ -1,7 +1,6 @@
 -- A packet's way through a card, computed turn by turn: link down, SLAAC on, nothing known. And a run that hears two routers. Assumes nothing.
-use Rattle.std.specs.Prelude.{ℕ, ◌≡◌, Bool, true, false, List, [], ◌∷◌, ◌++◌, map, replicate}
+use Rattle.std.specs.Prelude.{ℕ, ◌≡◌, Bool, true, false, List, [], ◌∷◌, ◌++◌, map, replicate, Some, None, Ok, Err}
 use Rattle.time.specs.declared.Instant.{Instant}
-use Rattle.time.specs.declared.Deadline.TheVariants.{None, At}
 use Rattle.wire.specs.declared.error.Refusal.TheVariants.{NotAdvertisement}
 use Rattle.wire.specs.declared.ethernet.HardwareAddress.{HardwareAddress}
 use Rattle.wire.specs.declared.ipv6.Ipv6Addr.{Ipv6Addr}
@@ -10,7 +9,6 @@ use Rattle.neighbor.specs.NeighborRules.{entry, lasting}
 use Rattle.neighbor.specs.CacheCalls.{entries, key, empty}
 use Rattle.sweep.specs.declared.ProbeEvent.TheVariants.{Retransmit, Failed}
 use Rattle.sweep.specs.SweepCalls.{event_list}
-use Rattle.pending.specs.declared.Push.TheVariants.{Queued}
 use Rattle.pending.specs.QueueCalls.{handles_of, empty as noPackets}
 use Rattle.iface.specs.declared.addr.AddrOrigin.TheVariants.{Manual}
 use Rattle.iface.specs.declared.addr.Preferred.TheVariants.{Always}
@@ -18,7 +16,6 @@ use Rattle.iface.specs.AddressRules.{no_addr, empty_addrs}
 use Rattle.iface.specs.RouteRules.{empty_routes}
 use Rattle.slaac.specs.DiscoveryRules.{fresh}
 use Rattle.slaac.specs.LearnedRules.{routers_of}
-use Rattle.autoconf.specs.declared.AdvertAnswer.TheVariants.{Refused as NotHeard}
 use Rattle.autoconf.specs.declared.PollAnswer.TheVariants.{Quiet, NoRoom}
 use Rattle.mainloop.specs.declared.Card.{Card}
 use Rattle.mainloop.specs.declared.Input.{Input}
@@ -114,15 +111,15 @@ link_inbox = record { slots = link_at 0 false Timer ∷ link_at 10 true LinkUp �
 
 pub record Story : Type 0 where
   -- Packet 7 is for a neighbour that is not known: it waits, the neighbour is to be solicited, and the card may sleep for 1,000 ms.
-  pub waits : at0.report.action ≡ Solicit Queued
-  pub until_1000 : at0.wake ≡ At (ms 1000)
+  pub waits : at0.report.action ≡ Solicit (Ok None)
+  pub until_1000 : at0.wake ≡ Some (ms 1000)
   -- Woken too early it finds nothing to do, and sleeps on.
-  pub too_early : turn_at 999 Timer at0.card ≡ record { card = at0.card; report = blank_report; wake = At (ms 1000) }
+  pub too_early : turn_at 999 Timer at0.card ≡ record { card = at0.card; report = blank_report; wake = Some (ms 1000) }
   -- No answer: the neighbour is to be solicited again, and once more.
   pub again : event_list at1000.report.events ≡ Retransmit neighbour ∷ []
-  pub until_2000 : at1000.wake ≡ At (ms 2000)
+  pub until_2000 : at1000.wake ≡ Some (ms 2000)
   pub once_more : event_list at2000.report.events ≡ Retransmit neighbour ∷ []
-  pub until_3000 : at2000.wake ≡ At (ms 3000)
+  pub until_3000 : at2000.wake ≡ Some (ms 3000)
   -- Still none: the resolution failed, the packet is handed back, and nothing is left to wake for.
   pub failed : event_list at3000.report.events ≡ Failed neighbour ∷ []
   pub handed_back : at3000.report.dropped ≡ handles_of (7 ∷ [])
@@ -131,11 +128,11 @@ pub record Story : Type 0 where
   pub goes : at1500.report.action ≡ Send its_address
   pub ready : at1500.report.ready ≡ handles_of (7 ∷ [])
   pub none_back : at1500.report.dropped ≡ handles_of []
-  pub until_61500 : at1500.wake ≡ At (ms 61500)
+  pub until_61500 : at1500.wake ≡ Some (ms 61500)
   -- An answer that nobody waits for tells nothing: the card is the new one.
   pub unasked : turn_at 10 (NeighborAdvert neighbour its_address) new_card ≡ record { card = new_card; report = blank_report; wake = None }
   -- An advertisement of that neighbour without a byte is refused, and the turn tells it.
-  pub refused : (turn_at 1600 (RouterAdvert neighbour) at1500.card).report.action ≡ HeardFrom (NotHeard NotAdvertisement) its_address
+  pub refused : (turn_at 1600 (RouterAdvert neighbour) at1500.card).report.action ≡ HeardFrom (Err NotAdvertisement) its_address
   -- Two advertisements stand in one receive buffer, and each is read from its own stretch: both routers are learned, and each is known as a
   -- neighbour by its own hardware address.
   pub both_learned : routers_of (run_with 2).card.slaac ≡ record { addr = neighbour; valid_until = ms 1800010 } ∷ record { addr = other; valid_until = ms 1800020 } ∷ []
@@ -144,4 +141,4 @@ pub record Story : Type 0 where
   -- With a budget of 1 the second is left.
   pub first_only : routers_of (run_with 1).card.slaac ≡ record { addr = neighbour; valid_until = ms 1800010 } ∷ []
   -- Each turn goes by the link as it was then: with the link down none solicits routers, and once it is up one is due (here without room).
-  pub link : map (λ r. r.answer) (run_over with_address None link_inbox [] own_address [] 2).reports ≡ Quiet ∷ NoRoom ∷ []
+  pub link : map (λ r. r.answer) (run_over with_address None link_inbox [] own_address [] 2).reports ≡ Ok Quiet ∷ (Ok NoRoom) ∷ []

@@ -1,23 +1,20 @@
-// The main loop of a card that uses the library: which call comes after what, and how long the card may sleep. A field has a local of its
-// own wherever the borrow checker takes only a variable.
+// The main loop of a card that uses the library: which call comes after what, and how long the card may sleep.
 #![tactic(auto)]
 
-ghost use Rattle.std.specs.Prelude.{◌≡◌, [], ◌∷◌};
+ghost use Rattle.std.specs.Prelude.{◌≡◌};
 ghost use Rattle.neighbor.specs.CacheCalls.{key};
-ghost use Rattle.sweep.specs.SweepCalls.{events_table};
-ghost use Rattle.pending.specs.QueueCalls.{handles_of};
-ghost use Rattle.mainloop.specs.LoopRules.{message_in, ready_of, sent, filled, learned, heard, taken, SettledTo, TurnedTo, blank_report, RanTo};
+ghost use Rattle.mainloop.specs.LoopRules.{message_in, ready_of, sent, filled, learned, heard, taken, not_taken_is, SettledTo, TurnedTo, blank_report, RanTo};
 
 use autoconf::{AdvertAnswer, PollAnswer, poll_at, process_advertisement};
 use iface::addr::IfaceAddrs;
 use iface::route::Routes;
-use neighbor::{Answer, NEIGHBOR_CACHE_COUNT, NeighborCache};
-use pending::{Handles, PENDING_QUEUE_COUNT, PendingQueue, Push, Release};
+use neighbor::{Answer, NeighborCache};
+use pending::{Handles, PENDING_QUEUE_COUNT, PendingQueue};
 use slaac::Slaac;
-use sweep::{EventSlot, Events, ProbeEvent, sweep_at};
+use sweep::{Events, sweep_at};
 use table::count_of;
-use time::{Clock, Deadline, Instant};
-use wire::error::{Check, Outcome, Refusal};
+use time::{Clock, Instant};
+use wire::error::{Refusal, check_time};
 use wire::ethernet::HardwareAddress;
 use wire::ipv6::Ipv6Addr;
 
@@ -56,17 +53,17 @@ pub enum Input {
 pub enum Action {
     Nothing,
     // What the advertisement was answered. Its router is not known as a neighbour.
-    Heard(AdvertAnswer),
+    Heard(Result<AdvertAnswer, Refusal>),
     // The same of a router that is known: the packets that are ready go to this address, in order.
-    HeardFrom(AdvertAnswer, HardwareAddress),
+    HeardFrom(Result<AdvertAnswer, Refusal>, HardwareAddress),
     // The input was refused, its time or its address, and the card is as it was: whoever queued a packet has it back.
     Refused(Refusal),
     // The packets that are ready go to this address, in order.
     Send(HardwareAddress),
     // The packet waits: its push is never refused, and a packet that it dropped to make room is handed back.
-    Wait(Push),
+    Wait(Result<Option<u32>, Refusal>),
     // The same, and its neighbour is to be solicited.
-    Solicit(Push),
+    Solicit(Result<Option<u32>, Refusal>),
 }
 
 // What an input leaves.
@@ -89,13 +86,13 @@ pub struct Ready {
 pub struct Settled {
     pub card: Card,
     // Whether a router solicitation stands in the buffer.
-    pub answer: PollAnswer,
+    pub answer: Result<PollAnswer, Refusal>,
     // The neighbours to solicit again, and those that failed.
     pub events: Events,
     // The packets that nothing will release, handed back to whoever queued them.
     pub dropped: Handles,
     // Until when it may sleep, if nothing comes.
-    pub wake: Deadline,
+    pub wake: Option<Instant>,
 }
 
 // What woke the card, when, and whether the link was up. An advertisement's message is a stretch of the receive buffer; with another input
@@ -114,7 +111,7 @@ pub struct Woken {
 pub struct Report {
     pub action: Action,
     pub ready: Handles,
-    pub answer: PollAnswer,
+    pub answer: Result<PollAnswer, Refusal>,
     pub events: Events,
     pub dropped: Handles,
 }
@@ -124,10 +121,10 @@ pub struct Report {
 pub struct Turned {
     pub card: Card,
     pub report: Report,
-    pub wake: Deadline,
+    pub wake: Option<Instant>,
 }
 
-// What the card's drivers gave, in order.
+// What the card's drivers gave, in order. Fixed memory: an array, and a count, which may be above its size.
 #[derive(Clone, Copy)]
 pub struct Inbox {
     pub slots: [Woken; INBOX_COUNT],
@@ -146,41 +143,17 @@ pub struct Reports {
 pub struct Ran {
     pub card: Card,
     pub reports: Reports,
-    pub wake: Deadline,
+    pub wake: Option<Instant>,
 }
 
-fn no_handles() -> Handles
-    ensures { result ≡ handles_of [] }
+// An input is refused, and the card is as it was.
+fn not_taken(card: Card, why: Refusal) -> Taken
+    ensures { result ≡ not_taken_is card why }
 {
-    let slots = [0u32; PENDING_QUEUE_COUNT];
-    Handles {
-        slots: slots,
-        len: 0,
-    }
-}
-
-fn one_handle(handle: u32) -> Handles
-    ensures { result ≡ handles_of (handle ∷ []) }
-{
-    let mut slots = [0u32; PENDING_QUEUE_COUNT];
-    slots[0] = handle;
-    Handles {
-        slots: slots,
-        len: 1,
-    }
-}
-
-fn no_events() -> Events
-    ensures { result ≡ events_table [] }
-{
-    let nowhere = Ipv6Addr { hi: 0, lo: 0 };
-    let slot = EventSlot {
-        event: ProbeEvent::Retransmit(nowhere),
-    };
-    let slots = [slot; NEIGHBOR_CACHE_COUNT];
-    Events {
-        slots: slots,
-        len: 0,
+    Taken {
+        card,
+        action: Action::Refused(why),
+        ready: Handles::new(),
     }
 }
 
@@ -194,74 +167,56 @@ fn part(received: &[u8], from: usize, len: usize) -> &[u8]
 }
 
 // The packets that wait for a neighbour, released one by one.
-fn release_all(queue: PendingQueue, addr: Ipv6Addr) -> Ready
+fn release_all(mut queue: PendingQueue, addr: Ipv6Addr) -> Ready
     ensures { result ≡ ready_of (key 0 addr) queue }
 {
-    let mut left = queue;
-    let mut slots = [0u32; PENDING_QUEUE_COUNT];
-    let mut len = 0;
-    while len < PENDING_QUEUE_COUNT {
-        let released = left.release(IFACE, addr);
-        let answer = released.answer;
-        let Release::Handle(handle) = answer else {
+    let mut handles = Handles::new();
+    // By index: a place is the count too.
+    for i in 0..PENDING_QUEUE_COUNT {
+        let released = queue.release(IFACE, addr);
+        let Some(handle) = released.answer.unwrap_or(None) else {
             break;
         };
-        let rest = released.queue;
-        left = rest;
-        slots[len] = handle;
-        len += 1;
+        queue = released.queue;
+        handles.slots[i] = handle;
+        handles.len = i + 1;
     }
-    Ready {
-        queue: left,
-        handles: Handles {
-            slots: slots,
-            len: len,
-        },
-    }
+    Ready { queue, handles }
 }
 
 // A packet goes to a neighbour that is known. For another it waits, and the first that waits has the neighbour solicited.
 fn send(card: Card, addr: Ipv6Addr, handle: u32) -> Taken
     ensures { result ≡ sent card addr handle }
 {
-    let mut card_after = card;
-    let cache = card.cache;
-    let queue = card.queue;
-    let known = cache.lookup(IFACE, addr);
-    match known {
-        Answer::Refused(why) => Taken {
-            card: card,
-            action: Action::Refused(why),
-            ready: no_handles(),
-        },
-        Answer::Found(hardware_addr) => Taken {
-            card: card,
+    match card.cache.lookup(IFACE, addr) {
+        Err(why) => not_taken(card, why),
+        Ok(Answer::Found(hardware_addr)) => Taken {
+            card,
             action: Action::Send(hardware_addr),
-            ready: one_handle(handle),
+            ready: Handles::one(handle),
         },
-        Answer::Pending => {
-            let pushed = queue.push(IFACE, addr, handle);
-            let queue_after = pushed.queue;
-            let push = pushed.answer;
-            card_after.queue = queue_after;
+        Ok(Answer::Pending) => {
+            let pushed = card.queue.push(IFACE, addr, handle);
             Taken {
-                card: card_after,
-                action: Action::Wait(push),
-                ready: no_handles(),
+                card: Card {
+                    queue: pushed.queue,
+                    ..card
+                },
+                action: Action::Wait(pushed.answer),
+                ready: Handles::new(),
             }
         }
-        Answer::NotFound => {
-            let pushed = queue.push(IFACE, addr, handle);
-            let started = cache.start_resolution(IFACE, addr);
-            let queue_after = pushed.queue;
-            let cache_after = started.cache;
-            let push = pushed.answer;
-            card_after.queue = queue_after;
-            card_after.cache = cache_after;
+        Ok(Answer::NotFound) => {
+            let pushed = card.queue.push(IFACE, addr, handle);
+            let started = card.cache.start_resolution(IFACE, addr);
             Taken {
-                card: card_after,
-                action: Action::Solicit(push),
-                ready: no_handles(),
+                card: Card {
+                    queue: pushed.queue,
+                    cache: started.cache,
+                    ..card
+                },
+                action: Action::Solicit(pushed.answer),
+                ready: Handles::new(),
             }
         }
     }
@@ -271,28 +226,19 @@ fn send(card: Card, addr: Ipv6Addr, handle: u32) -> Taken
 fn fill(card: Card, addr: Ipv6Addr, hardware_addr: HardwareAddress, timestamp: Instant) -> Taken
     ensures { result ≡ filled card addr hardware_addr timestamp }
 {
-    let mut card_after = card;
-    let cache = card.cache;
-    let queue = card.queue;
-    let change = cache.fill(IFACE, addr, hardware_addr, timestamp);
-    let outcome = change.outcome;
-    match outcome {
-        Outcome::Refused(why) => Taken {
-            card: card,
-            action: Action::Refused(why),
-            ready: no_handles(),
-        },
-        Outcome::Done => {
-            let released = release_all(queue, addr);
-            let queue_after = released.queue;
-            let cache_after = change.cache;
-            let ready = released.handles;
-            card_after.queue = queue_after;
-            card_after.cache = cache_after;
+    let change = card.cache.fill(IFACE, addr, hardware_addr, timestamp);
+    match change.outcome {
+        Err(why) => not_taken(card, why),
+        Ok(()) => {
+            let released = release_all(card.queue, addr);
             Taken {
-                card: card_after,
+                card: Card {
+                    queue: released.queue,
+                    cache: change.cache,
+                    ..card
+                },
                 action: Action::Send(hardware_addr),
-                ready: ready,
+                ready: released.handles,
             }
         }
     }
@@ -302,21 +248,17 @@ fn fill(card: Card, addr: Ipv6Addr, hardware_addr: HardwareAddress, timestamp: I
 fn learn(card: Card, addr: Ipv6Addr, hardware_addr: HardwareAddress, timestamp: Instant) -> Taken
     ensures { result ≡ learned card addr hardware_addr timestamp }
 {
-    let cache = card.cache;
-    let known = cache.lookup(IFACE, addr);
+    let known = match card.cache.lookup(IFACE, addr) {
+        Ok(known) => known,
+        Err(why) => return not_taken(card, why),
+    };
     match known {
-        Answer::Refused(why) => Taken {
-            card: card,
-            action: Action::Refused(why),
-            ready: no_handles(),
-        },
         Answer::NotFound => Taken {
-            card: card,
+            card,
             action: Action::Nothing,
-            ready: no_handles(),
+            ready: Handles::new(),
         },
-        Answer::Pending => fill(card, addr, hardware_addr, timestamp),
-        Answer::Found(_) => fill(card, addr, hardware_addr, timestamp),
+        Answer::Pending | Answer::Found(_) => fill(card, addr, hardware_addr, timestamp),
     }
 }
 
@@ -324,32 +266,31 @@ fn learn(card: Card, addr: Ipv6Addr, hardware_addr: HardwareAddress, timestamp: 
 fn hear(card: Card, source: Ipv6Addr, message: &[u8], timestamp: Instant) -> Taken
     ensures { result ≡ heard card source message.now timestamp }
 {
-    let mut card_after = card;
-    let slaac = card.slaac;
-    let cache = card.cache;
-    let queue = card.queue;
-    let heard = process_advertisement(slaac, cache, IFACE, source, message, timestamp);
-    let slaac_after = heard.slaac;
-    let cache_after = heard.cache;
-    let answer = heard.answer;
-    card_after.slaac = slaac_after;
-    card_after.cache = cache_after;
-    let known = cache_after.lookup(IFACE, source);
-    let Answer::Found(hardware_addr) = known else {
-        return Taken {
-            card: card_after,
-            action: Action::Heard(answer),
-            ready: no_handles(),
-        };
+    let heard = process_advertisement(card.slaac, card.cache, IFACE, source, message, timestamp);
+    let card = Card {
+        slaac: heard.slaac,
+        cache: heard.cache,
+        ..card
     };
-    let released = release_all(queue, source);
-    let queue_after = released.queue;
-    let ready = released.handles;
-    card_after.queue = queue_after;
+    let heard_only = Taken {
+        card,
+        action: Action::Heard(heard.answer),
+        ready: Handles::new(),
+    };
+    let Ok(known) = card.cache.lookup(IFACE, source) else {
+        return heard_only;
+    };
+    let Answer::Found(hardware_addr) = known else {
+        return heard_only;
+    };
+    let released = release_all(card.queue, source);
     Taken {
-        card: card_after,
-        action: Action::HeardFrom(answer, hardware_addr),
-        ready: ready,
+        card: Card {
+            queue: released.queue,
+            ..card
+        },
+        action: Action::HeardFrom(heard.answer, hardware_addr),
+        ready: released.handles,
     }
 }
 
@@ -357,35 +298,23 @@ fn hear(card: Card, source: Ipv6Addr, message: &[u8], timestamp: Instant) -> Tak
 pub fn take(card: Card, input: Input, message: &[u8], timestamp: Instant) -> Taken
     ensures { result ≡ taken card input message.now timestamp }
 {
-    let mut card_after = card;
-    let slaac = card.slaac;
-    let check = wire::error::check_time(timestamp, IFACE);
-    match check {
-        Check::Refused(why) => {
-            return Taken {
-                card: card,
-                action: Action::Refused(why),
-                ready: no_handles(),
-            };
-        }
-        Check::Fine => {}
+    if let Err(why) = check_time(timestamp, IFACE) {
+        return not_taken(card, why);
     }
     match input {
         Input::Timer => Taken {
-            card: card,
+            card,
             action: Action::Nothing,
-            ready: no_handles(),
+            ready: Handles::new(),
         },
-        Input::LinkUp => {
-            let changed = slaac.restart(IFACE);
-            let slaac_after = changed.slaac;
-            card_after.slaac = slaac_after;
-            Taken {
-                card: card_after,
-                action: Action::Nothing,
-                ready: no_handles(),
-            }
-        }
+        Input::LinkUp => Taken {
+            card: Card {
+                slaac: card.slaac.restart(IFACE).slaac,
+                ..card
+            },
+            action: Action::Nothing,
+            ready: Handles::new(),
+        },
         Input::RouterAdvert(source) => hear(card, source, message, timestamp),
         Input::NeighborAdvert(addr, hardware_addr) => learn(card, addr, hardware_addr, timestamp),
         Input::Packet(addr, handle) => send(card, addr, handle),
@@ -404,55 +333,42 @@ pub fn settle(
 ) -> Settled
     ensures { SettledTo card up hardware_addr buf.old timestamp result buf.new }
 {
-    let check = wire::error::check_time(timestamp, IFACE);
-    match check {
-        Check::Refused(why) => {
-            return Settled {
-                card: card,
-                answer: PollAnswer::Refused(why),
-                events: no_events(),
-                dropped: no_handles(),
-                wake: Deadline::None,
-            };
-        }
-        Check::Fine => {}
+    if let Err(why) = check_time(timestamp, IFACE) {
+        return Settled {
+            card,
+            answer: Err(why),
+            events: Events::new(),
+            dropped: Handles::new(),
+            wake: None,
+        };
     }
-    let slaac = card.slaac;
-    let addrs = card.addrs;
-    let routes = card.routes;
-    let cache = card.cache;
-    let queue = card.queue;
     let clock = Clock::new(timestamp);
-    let polled_at = poll_at(slaac, addrs, routes, IFACE, up, hardware_addr, buf, clock);
+    let polled_at = poll_at(
+        card.slaac,
+        card.addrs,
+        card.routes,
+        IFACE,
+        up,
+        hardware_addr,
+        buf,
+        clock,
+    );
     let polled = polled_at.polled;
-    let polled_clock = polled_at.clock;
-    let swept = sweep_at(cache, polled_clock, IFACE);
-    let swept_cache = swept.cache;
-    let swept_clock = swept.clock;
-    let swept_again = sweep_at(swept_cache, swept_clock, IFACE);
-    let settled_cache = swept_again.cache;
-    let settled_clock = swept_again.clock;
-    let purged = queue.purge_orphans(settled_cache);
-    let slaac_after = polled.slaac;
-    let addrs_after = polled.addrs;
-    let routes_after = polled.routes;
-    let queue_after = purged.queue;
-    let answer = polled.answer;
-    let events = swept.events;
-    let dropped = purged.handles;
-    let wake = settled_clock.deadline;
+    let swept = sweep_at(card.cache, polled_at.clock, IFACE);
+    let swept_again = sweep_at(swept.cache, swept.clock, IFACE);
+    let purged = card.queue.purge_orphans(swept_again.cache);
     Settled {
         card: Card {
-            slaac: slaac_after,
-            addrs: addrs_after,
-            routes: routes_after,
-            cache: settled_cache,
-            queue: queue_after,
+            slaac: polled.slaac,
+            addrs: polled.addrs,
+            routes: polled.routes,
+            cache: swept_again.cache,
+            queue: purged.queue,
         },
-        answer: answer,
-        events: events,
-        dropped: dropped,
-        wake: wake,
+        answer: polled.answer,
+        events: swept.events,
+        dropped: purged.handles,
+        wake: swept_again.clock.deadline,
     }
 }
 
@@ -466,29 +382,19 @@ pub fn turn(
 ) -> Turned
     ensures { TurnedTo card woken received.now hardware_addr buf.old result buf.new }
 {
-    let input = woken.input;
-    let at = woken.at;
     let message = part(received, woken.message_from, woken.message_len);
-    let taken = take(card, input, message, at);
-    let awake = taken.card;
-    let settled = settle(awake, woken.up, hardware_addr, buf, at);
-    let asleep = settled.card;
-    let action = taken.action;
-    let ready = taken.ready;
-    let answer = settled.answer;
-    let events = settled.events;
-    let dropped = settled.dropped;
-    let wake = settled.wake;
+    let taken = take(card, woken.input, message, woken.at);
+    let settled = settle(taken.card, woken.up, hardware_addr, buf, woken.at);
     Turned {
-        card: asleep,
+        card: settled.card,
         report: Report {
-            action: action,
-            ready: ready,
-            answer: answer,
-            events: events,
-            dropped: dropped,
+            action: taken.action,
+            ready: taken.ready,
+            answer: settled.answer,
+            events: settled.events,
+            dropped: settled.dropped,
         },
-        wake: wake,
+        wake: settled.wake,
     }
 }
 
@@ -497,10 +403,10 @@ fn blank() -> Report
 {
     Report {
         action: Action::Nothing,
-        ready: no_handles(),
-        answer: PollAnswer::Quiet,
-        events: no_events(),
-        dropped: no_handles(),
+        ready: Handles::new(),
+        answer: Ok(PollAnswer::Quiet),
+        events: Events::new(),
+        dropped: Handles::new(),
     }
 }
 
@@ -508,7 +414,7 @@ fn blank() -> Report
 // Without a turn the card may sleep as long as before. In the buffer stands the last solicitation.
 pub fn run(
     card: Card,
-    wake: Deadline,
+    wake: Option<Instant>,
     inbox: Inbox,
     received: &[u8],
     hardware_addr: HardwareAddress,
@@ -521,17 +427,11 @@ pub fn run(
     let mut sleeping = card;
     let mut sleep_until = wake;
     let mut reports = [blank(); INBOX_COUNT];
-    let mut i = 0;
-    while i < turns {
-        let woken = inbox.slots[i];
-        let turned = turn(sleeping, woken, received, hardware_addr, buf);
-        let asleep = turned.card;
-        let wake_after = turned.wake;
-        let report = turned.report;
-        sleeping = asleep;
-        sleep_until = wake_after;
-        reports[i] = report;
-        i += 1;
+    for (i, woken) in inbox.slots[..turns].iter().enumerate() {
+        let turned = turn(sleeping, *woken, received, hardware_addr, buf);
+        sleeping = turned.card;
+        sleep_until = turned.wake;
+        reports[i] = turned.report;
     }
     Ran {
         card: sleeping,

@@ -1,14 +1,12 @@
 // Neighbour-discovery options (RFC 4861, 4.6): checked, read, written at a place of a message, and walked.
 // `s` is always the part of the message that begins at the option. A length is in units of 8 bytes.
-ghost use Rattle.std.specs.Prelude.{◌≡◌, ◌+◌, ◌-◌, ◌<◌, ◌≤◌, length};
-ghost use Rattle.std.proofs.lemmas.List.Edits.{sets};
+ghost use Rattle.std.specs.Prelude.{◌≡◌, ◌<◌, ◌≤◌, true, length, MatchOption, ◌++◌, drop};
 ghost use Rattle.wire.specs.Rfc2464.{hardware_at};
-ghost use Rattle.wire.specs.Rfc4291.{address_at, address_bytes};
-ghost use Rattle.ndisc.specs.Rfc4861Options.{flag, prefix_at};
+ghost use Rattle.ndisc.specs.Rfc4861Options.{malformed, flag, prefix_at};
 ghost use Rattle.ndisc.specs.OptionCalls.{least_len, Measured, Checks, HandsBack, link_layer_bytes, prefix_bytes, mtu_bytes, Wrote};
 ghost use Rattle.ndisc.specs.OptionWalk.{Steps, Walks};
 
-use crate::{bit, put_four, put8, put16, put32, put64, u16_at, u32_at, u64_at};
+use crate::bytes_at;
 use wire::error::Refusal;
 use wire::ethernet::HardwareAddress;
 use wire::ipv6::Ipv6Addr;
@@ -36,8 +34,6 @@ mod field {
 
     pub const LINK_LAYER_ADDR: usize = 2;
 
-    pub const LINK_LAYER_ADDR_LO: usize = 4;
-
     pub const PREFIX_LEN: usize = 2;
 
     pub const FLAGS: usize = 3;
@@ -63,12 +59,7 @@ const PREFIX_INFORMATION_LEN: usize = 32;
 
 const REDIR_MIN_SZ: usize = 48;
 
-// The bytes of the other options that are written.
-const LINK_LAYER_ADDR_LEN: usize = 8;
-
-const MTU_LEN: usize = 8;
-
-// Their lengths in units, and that of prefix information.
+// The lengths in units of the options that are written.
 const ONE_UNIT: u8 = 1;
 
 const PREFIX_INFORMATION_UNITS: u8 = 4;
@@ -99,37 +90,19 @@ pub enum NdiscOption {
     Unknown(u8),
 }
 
+// An enum of its own and no Result, as document 01 has it for the checked option.
 #[derive(Clone, Copy)]
 pub enum Checked {
     Refused(Refusal),
     Well { option: NdiscOption, units: usize },
 }
 
-#[derive(Clone, Copy)]
-pub enum Written {
-    Refused(Refusal),
-    Done,
-}
-
-// Whether every option is well formed, and the place of the first that is not.
-#[derive(Clone, Copy)]
-pub enum Walk {
-    Clean,
-    MalformedAt(usize),
-}
-
-// What stands at a place of the options.
+// What stands at a place of the options: one of three, so neither an Option nor a Result.
 #[derive(Clone, Copy)]
 pub enum Next {
     End,
     Malformed,
     Option { option: NdiscOption, next: usize },
-}
-
-fn to_usize(byte: u8) -> usize
-    ensures { (result ≡ byte) × (result < 256) }
-{
-    byte as usize
 }
 
 // The fewest bytes that an option of a type has.
@@ -143,42 +116,26 @@ fn least_len(kind: u8) -> usize
     }
 }
 
-// How many units the option has; 0 if it is malformed.
-fn units(s: &[u8]) -> usize
-    ensures { Measured s.now result }
+// How many units the option has, if it is well formed.
+fn units(s: &[u8]) -> Option<usize>
+    ensures { MatchOption result (malformed s.now ≡ true) (Measured s.now) }
 {
     if s.len() < MIN_OPT_LEN {
-        return 0;
+        return None;
     }
-    let units = to_usize(s[field::LENGTH]);
+    let units = usize::from(s[field::LENGTH]);
     let len = UNIT * units;
-    if s.len() < len {
-        return 0;
+    if s.len() < len || len < least_len(s[field::TYPE]) {
+        return None;
     }
-    if len < least_len(s[field::TYPE]) {
-        return 0;
-    }
-    units
+    Some(units)
 }
 
 fn link_layer_addr(s: &[u8]) -> HardwareAddress
     requires { 8 ≤ length s.now }
     ensures { result ≡ hardware_at s.now 2 }
 {
-    HardwareAddress {
-        hi: u16_at(s, field::LINK_LAYER_ADDR),
-        lo: u32_at(s, field::LINK_LAYER_ADDR_LO),
-    }
-}
-
-fn address_at(s: &[u8], i: usize) -> Ipv6Addr
-    requires { i + 16 ≤ length s.now }
-    ensures { result ≡ address_at s.now i }
-{
-    Ipv6Addr {
-        hi: u64_at(s, i),
-        lo: u64_at(s, i + 8),
-    }
+    HardwareAddress::from_octets(&bytes_at(s, field::LINK_LAYER_ADDR))
 }
 
 // RFC 4861, 4.6.2: a receiver ignores the bits past the prefix length.
@@ -187,14 +144,14 @@ fn prefix_information(s: &[u8]) -> PrefixInformation
     ensures { result ≡ prefix_at s.now }
 {
     let prefix_len = s[field::PREFIX_LEN];
-    let prefix = address_at(s, field::PREFIX);
+    let flags = s[field::FLAGS];
     PrefixInformation {
         prefix_len,
-        on_link: bit(ON_LINK, s[field::FLAGS]),
-        addrconf: bit(ADDRCONF, s[field::FLAGS]),
-        valid_lifetime: u32_at(s, field::VALID_LT),
-        preferred_lifetime: u32_at(s, field::PREF_LT),
-        prefix: prefix.mask(prefix_len),
+        on_link: flags & ON_LINK != 0,
+        addrconf: flags & ADDRCONF != 0,
+        valid_lifetime: u32::from_be_bytes(bytes_at(s, field::VALID_LT)),
+        preferred_lifetime: u32::from_be_bytes(bytes_at(s, field::PREF_LT)),
+        prefix: Ipv6Addr::from_octets(&bytes_at(s, field::PREFIX)).mask(prefix_len),
     }
 }
 
@@ -203,10 +160,9 @@ fn prefix_information(s: &[u8]) -> PrefixInformation
 pub fn check_option(s: &[u8]) -> Checked
     ensures { Checks s.now result }
 {
-    let units = units(s);
-    if units == 0 {
+    let Some(units) = units(s) else {
         return Checked::Refused(Refusal::Malformed);
-    }
+    };
     let kind = s[field::TYPE];
     match kind {
         option_type::SOURCE_LINK_LAYER_ADDR => {
@@ -235,7 +191,7 @@ pub fn check_option(s: &[u8]) -> Checked
         }
         option_type::MTU => {
             return Checked::Well {
-                option: NdiscOption::Mtu(u32_at(s, field::MTU)),
+                option: NdiscOption::Mtu(u32::from_be_bytes(bytes_at(s, field::MTU))),
                 units,
             };
         }
@@ -252,113 +208,110 @@ pub fn check_option(s: &[u8]) -> Checked
 pub fn data(s: &[u8]) -> &[u8]
     ensures { HandsBack s.entry result }
 {
-    let units = units(s);
-    if units == 0 {
-        return &s[..0];
+    match units(s) {
+        Some(units) => &s[field::DATA..UNIT * units],
+        None => &s[..0],
     }
-    &s[field::DATA..UNIT * units]
 }
 
-// The leaves fill the first bytes of the part that they are lent.
-fn fill_link_layer_addr(s: &mut [u8], kind: u8, addr: HardwareAddress)
-    requires { 8 ≤ length s.old }
-    ensures { s.new ≡ sets s.old 0 (link_layer_bytes kind addr) }
+fn link_layer_bytes(kind: u8, addr: HardwareAddress) -> [u8; 8]
+    ensures { result ≡ link_layer_bytes kind addr }
 {
-    put8(s, field::TYPE, kind);
-    put8(s, field::LENGTH, ONE_UNIT);
-    put16(s, field::LINK_LAYER_ADDR, addr.hi);
-    put32(s, field::LINK_LAYER_ADDR_LO, addr.lo);
+    let [a, b, c, d, e, f] = addr.octets();
+    [kind, ONE_UNIT, a, b, c, d, e, f]
 }
 
-fn fill_mtu(s: &mut [u8], mtu: u32)
-    requires { 8 ≤ length s.old }
-    ensures { s.new ≡ sets s.old 0 (mtu_bytes mtu) }
+fn mtu_bytes(mtu: u32) -> [u8; 8]
+    ensures { result ≡ mtu_bytes mtu }
 {
-    put_four(s, option_type::MTU, ONE_UNIT, 0, 0);
-    put32(s, field::MTU, mtu);
-}
-
-fn put_address(s: &mut [u8], i: usize, addr: Ipv6Addr)
-    requires { i + 16 ≤ length s.old }
-    ensures { s.new ≡ sets s.old i (address_bytes addr) }
-{
-    put64(s, i, addr.hi);
-    put64(s, i + 8, addr.lo);
+    let [a, b, c, d] = mtu.to_be_bytes();
+    [option_type::MTU, ONE_UNIT, 0, 0, a, b, c, d]
 }
 
 fn flag(mask: u8, set: bool) -> u8
-    ensures { (result ≡ flag mask set) × (result ≤ mask) }
+    ensures { result ≡ flag mask set }
 {
     if set { mask } else { 0 }
 }
 
-fn fill_prefix_information(s: &mut [u8], info: PrefixInformation)
-    requires { 32 ≤ length s.old }
-    ensures { s.new ≡ sets s.old 0 (prefix_bytes info) }
+fn prefix_bytes(info: PrefixInformation) -> [u8; PREFIX_INFORMATION_LEN]
+    ensures { result ≡ prefix_bytes info }
 {
-    let on_link = flag(ON_LINK, info.on_link);
-    let addrconf = flag(ADDRCONF, info.addrconf);
-    put_four(
-        s,
-        option_type::PREFIX_INFORMATION,
-        PREFIX_INFORMATION_UNITS,
-        info.prefix_len,
-        on_link + addrconf,
+    let mut bytes = [0; PREFIX_INFORMATION_LEN];
+    bytes[field::TYPE] = option_type::PREFIX_INFORMATION;
+    bytes[field::LENGTH] = PREFIX_INFORMATION_UNITS;
+    bytes[field::PREFIX_LEN] = info.prefix_len;
+    bytes[field::FLAGS] = flag(ON_LINK, info.on_link) | flag(ADDRCONF, info.addrconf);
+    bytes[field::VALID_LT..field::PREF_LT].copy_from_slice(&info.valid_lifetime.to_be_bytes());
+    bytes[field::PREF_LT..field::PREF_RESERVED].copy_from_slice(
+        &info.preferred_lifetime.to_be_bytes(),
     );
-    put32(s, field::VALID_LT, info.valid_lifetime);
-    put32(s, field::PREF_LT, info.preferred_lifetime);
-    put32(s, field::PREF_RESERVED, 0);
-    let prefix = info.prefix;
-    put_address(s, field::PREFIX, prefix);
+    bytes[field::PREFIX..].copy_from_slice(&info.prefix.octets());
+    bytes
 }
 
-// How many bytes a message of `len` has from place `at` on.
-fn room_at(len: usize, at: usize) -> usize
-    ensures { result ≡ len - at }
+// The leaf fills the first bytes of the part that it is lent.
+fn fill<const N: usize>(s: &mut [u8], option: &[u8; N])
+    requires { N ≤ length s.old }
+    ensures { s.new ≡ option.now ++ drop N s.old }
 {
-    if len < at { 0 } else { len - at }
+    s[..N].copy_from_slice(option);
 }
 
-fn write_link_layer_addr(msg: &mut [u8], at: usize, kind: u8, addr: HardwareAddress) -> Written
-    ensures { Wrote msg.old at (link_layer_bytes kind addr) result msg.new }
+// The writer lends on the part of the message that begins at the place.
+fn write<const N: usize>(msg: &mut [u8], at: usize, option: [u8; N]) -> Result<(), Refusal>
+    requires { 0 < N }
+    ensures { Wrote msg.old at option.entry result msg.new }
 {
-    if room_at(msg.len(), at) < LINK_LAYER_ADDR_LEN {
-        return Written::Refused(Refusal::NoRoom);
+    if msg.len().saturating_sub(at) < N {
+        return Err(Refusal::NoRoom);
     }
-    fill_link_layer_addr(&mut msg[at..], kind, addr);
-    Written::Done
+    fill(&mut msg[at..], &option);
+    Ok(())
 }
 
-pub fn write_source_link_layer_addr(msg: &mut [u8], at: usize, addr: HardwareAddress) -> Written
+pub fn write_source_link_layer_addr(
+    msg: &mut [u8],
+    at: usize,
+    addr: HardwareAddress,
+) -> Result<(), Refusal>
     ensures { Wrote msg.old at (link_layer_bytes 1 addr) result msg.new }
 {
-    write_link_layer_addr(msg, at, option_type::SOURCE_LINK_LAYER_ADDR, addr)
+    write(
+        msg,
+        at,
+        link_layer_bytes(option_type::SOURCE_LINK_LAYER_ADDR, addr),
+    )
 }
 
-pub fn write_target_link_layer_addr(msg: &mut [u8], at: usize, addr: HardwareAddress) -> Written
+pub fn write_target_link_layer_addr(
+    msg: &mut [u8],
+    at: usize,
+    addr: HardwareAddress,
+) -> Result<(), Refusal>
     ensures { Wrote msg.old at (link_layer_bytes 2 addr) result msg.new }
 {
-    write_link_layer_addr(msg, at, option_type::TARGET_LINK_LAYER_ADDR, addr)
+    write(
+        msg,
+        at,
+        link_layer_bytes(option_type::TARGET_LINK_LAYER_ADDR, addr),
+    )
 }
 
-pub fn write_prefix_information(msg: &mut [u8], at: usize, info: PrefixInformation) -> Written
+pub fn write_prefix_information(
+    msg: &mut [u8],
+    at: usize,
+    info: PrefixInformation,
+) -> Result<(), Refusal>
     ensures { Wrote msg.old at (prefix_bytes info) result msg.new }
 {
-    if room_at(msg.len(), at) < PREFIX_INFORMATION_LEN {
-        return Written::Refused(Refusal::NoRoom);
-    }
-    fill_prefix_information(&mut msg[at..], info);
-    Written::Done
+    write(msg, at, prefix_bytes(info))
 }
 
-pub fn write_mtu(msg: &mut [u8], at: usize, mtu: u32) -> Written
+pub fn write_mtu(msg: &mut [u8], at: usize, mtu: u32) -> Result<(), Refusal>
     ensures { Wrote msg.old at (mtu_bytes mtu) result msg.new }
 {
-    if room_at(msg.len(), at) < MTU_LEN {
-        return Written::Refused(Refusal::NoRoom);
-    }
-    fill_mtu(&mut msg[at..], mtu);
-    Written::Done
+    write(msg, at, mtu_bytes(mtu))
 }
 
 // What stands at a place.
@@ -378,17 +331,17 @@ pub fn next_option(msg: &[u8], at: usize) -> Next
 }
 
 // Whether the options from place `from` to the end of the message are all well formed. The walk is left at the first that is not.
-pub fn check_options(msg: &[u8], from: usize) -> Walk
+pub fn check_options(msg: &[u8], from: usize) -> Option<usize>
     ensures { Walks msg.now from result }
 {
     let mut at = from;
     loop {
         if msg.len() <= at {
-            break Walk::Clean;
+            break None;
         }
         match check_option(&msg[at..]) {
-            Checked::Refused(_) => break Walk::MalformedAt(at),
-            Checked::Well { option: _, units } => at += UNIT * units,
+            Checked::Refused(_) => break Some(at),
+            Checked::Well { units, .. } => at += UNIT * units,
         }
     }
 }

@@ -7,6 +7,8 @@ use mathlib.Core.Bool.{Bool, true, false, cond}
 use mathlib.Core.Logic.{◌⊎◌, inl, inr}
 use mathlib.Core.Path.{◌≡◌, refl, sym, subst}
 use native.Mathlib.Omega.{arith}
+use Rattle.std.specs.Prelude.{None, Result, Ok, Err}
+use Rattle.wire.specs.declared.error.Refusal.{Refusal}
 use Rattle.neighbor.proofs.Keys.{same_key_true}
 use Rattle.neighbor.proofs.OneKey.{Freed, put_own, put_other, remove_own, remove_other, clear_own, clear_other}
 use Rattle.neighbor.specs.CacheCalls.{entries, with_entries, blank, key, change_by, ChangedTo, shown, remove_by}
@@ -14,13 +16,10 @@ use Rattle.wire.specs.Refusals.{iface_check}
 use Rattle.neighbor.specs.Distinct.{Distinct, Once, KeysOnce}
 use Rattle.neighbor.specs.NeighborRules.{Table, Key, same_key, find, insert_state, remove_key, clear_iface, entries_of}
 use Rattle.neighbor.specs.declared.Changed.{Changed}
-use Rattle.neighbor.specs.declared.Got.TheVariants.{Nothing}
 use Rattle.neighbor.specs.declared.NeighborCache.{NeighborCache}
 use Rattle.neighbor.specs.declared.Removed.{Removed}
 use Rattle.neighbor.specs.declared.State.TheVariants.{Started, Reachable}
 use Rattle.neighbor.specs.declared.State.{State}
-use Rattle.wire.specs.declared.error.Check.TheVariants.{Fine, Refused as Fails}
-use Rattle.wire.specs.declared.error.Check.{Check}
 
 -- On the entries
 
@@ -63,20 +62,20 @@ distinct_clear i t d = record { once = λ k. clear_few k i t d }
 pub entries_of_lem : (c : NeighborCache) (xs : Table) → entries (with_entries c xs) ≡ xs
 entries_of_lem c xs = take-append_seam xs (drop (length xs) c.slots)
 
-changes : (check : Check) (c : NeighborCache) (xs : Table) → Once c → Distinct xs → Once (change_by check c (with_entries c xs)).cache
-changes (Fails why) c xs d e = d
-changes Fine c xs d e = rw (entries_of_lem c xs) e
+changes : (check : Result (Unit {0}) Refusal) (c : NeighborCache) (xs : Table) → Once c → Distinct xs → Once (change_by check c (with_entries c xs)).cache
+changes (Err why) c xs d e = d
+changes (Ok tt) c xs d e = rw (entries_of_lem c xs) e
 
-kept_once : (check : Check) (c : NeighborCache) (xs : Table) (r : Changed) → ChangedTo check c (with_entries c xs) r → Once c → Distinct xs → Once r.cache
+kept_once : (check : Result (Unit {0}) Refusal) (c : NeighborCache) (xs : Table) (r : Changed) → ChangedTo check c (with_entries c xs) r → Once c → Distinct xs → Once r.cache
 kept_once check c xs r p d e = subst (λ (x : Changed). Once x.cache) (sym p.is) (changes check c xs d e)
 
-removes : (check : Check) (c : NeighborCache) (k : Key) → Once c → Once (remove_by check c k).cache
-removes (Fails why) c k d = d
-removes Fine c k d = go (ltb (find k (entries c)) (length (entries c)))
+removes : (check : Result (Unit {0}) Refusal) (c : NeighborCache) (k : Key) → Once c → Once (remove_by check c k).cache
+removes (Err why) c k d = d
+removes (Ok tt) c k d = go (ltb (find k (entries c)) (length (entries c)))
   where
     go : (x : Bool) → Once (cond {A = Removed} x
         (record { cache = with_entries c (remove_key k (entries c)); taken = shown (get_or (entries c) (find k (entries c)) blank) })
-        (record { cache = c; taken = Nothing })).cache
+        (record { cache = c; taken = Ok None })).cache
     go true = rw (entries_of_lem c (remove_key k (entries c))) (distinct_remove k (entries c) d)
     go false = d
 

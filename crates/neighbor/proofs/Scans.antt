@@ -6,12 +6,12 @@ use mathlib.Core.Bool.{Bool, true, false, cond}
 use mathlib.Core.List.{List, [], ◌∷◌}
 use mathlib.Core.Path.{◌≡◌, refl, ap, sym, ◌∙◌}
 use native.Mathlib.Omega.{arith}
+use Rattle.std.specs.Prelude.{Ok, None}
 use Rattle.neighbor.specs.CacheCalls.{blank, answer_in, shown}
 use Rattle.neighbor.specs.NeighborRules.{Table, is_key, find, remove_key}
 use Rattle.neighbor.specs.Scans.{FirstOfLaw, LookupLaw, GetLaw, RemoveLaw}
 use Rattle.neighbor.specs.declared.Answer.TheVariants.{NotFound}
 use Rattle.neighbor.specs.declared.Entry.{Entry}
-use Rattle.neighbor.specs.declared.Got.TheVariants.{Nothing}
 use Rattle.table.proofs.Laws.{moved_in, moved_count}
 use Rattle.table.specs.First.{FirstAt, NoneFrom}
 use Rattle.table.specs.Table.{first_of, swap_remove, filled}
@@ -43,15 +43,15 @@ first_of_law =
 pub lookup_law : LookupLaw
 lookup_law =
     record {
-      has = λ k t j at. first_of_lem blank (is_key k) answer_in NotFound t j at;
-      has_not = λ k t j at. none_of blank (is_key k) answer_in NotFound t j at;
+      has = λ k t j at. first_of_lem blank (is_key k) answer_in (Ok NotFound) t j at;
+      has_not = λ k t j at. none_of blank (is_key k) answer_in (Ok NotFound) t j at;
     }
 
 pub get_law : GetLaw
 get_law =
     record {
-      has = λ k t j at. first_of_lem blank (is_key k) shown Nothing t j at;
-      has_not = λ k t j at. none_of blank (is_key k) shown Nothing t j at;
+      has = λ k t j at. first_of_lem blank (is_key k) shown (Ok None) t j at;
+      has_not = λ k t j at. none_of blank (is_key k) shown (Ok None) t j at;
     }
 
 -- the last entry is stored at i, and what is past the others is left

@@ -1,5 +1,6 @@
 -- What the answers of the cache are on paper: document 01's number of a refusal, 0 for none, and the values of each case. Assumes nothing.
-use Rattle.std.specs.Prelude.{ℕ, List, [], ◌∷◌}
+use Rattle.wire.specs.declared.error.Refusal.{Refusal}
+use Rattle.std.specs.Prelude.{ℕ, List, [], ◌∷◌, Result, Ok, Err, Option, Some, None}
 use Rattle.wire.specs.Refusals.{number_of}
 use Rattle.wire.specs.declared.ethernet.HardwareAddress.{HardwareAddress}
 use Rattle.neighbor.specs.declared.State.{State}
@@ -9,33 +10,40 @@ use Rattle.neighbor.specs.declared.NeighborState.TheVariants.{Incomplete as Reso
 use Rattle.neighbor.specs.declared.Entry.{Entry}
 use Rattle.neighbor.specs.declared.Neighbor.{Neighbor}
 use Rattle.neighbor.specs.declared.Answer.{Answer}
-use Rattle.neighbor.specs.declared.Answer.TheVariants.{Refused as Denied, Found, Pending, NotFound}
-use Rattle.neighbor.specs.declared.Got.{Got}
-use Rattle.neighbor.specs.declared.Got.TheVariants.{Refused as Rejected, Nothing, Is}
+use Rattle.neighbor.specs.declared.Answer.TheVariants.{Found, Pending, NotFound}
 
-abbrev pub answer_number : Answer → ℕ
-answer_number (Denied why) = number_of why
-answer_number (Found h) = 0
-answer_number Pending = 0
-answer_number NotFound = 0
+abbrev pub answer_number : Result Answer Refusal → ℕ
+answer_number (Err why) = number_of why
+answer_number (Ok (Found h)) = 0
+answer_number (Ok Pending) = 0
+answer_number (Ok NotFound) = 0
 
 -- the hardware address, if one was found
-abbrev pub answer_found : Answer → List HardwareAddress
-answer_found (Denied why) = []
-answer_found (Found h) = h ∷ []
-answer_found Pending = []
-answer_found NotFound = []
+abbrev pub answer_found : Result Answer Refusal → List HardwareAddress
+answer_found (Err why) = []
+answer_found (Ok (Found h)) = h ∷ []
+answer_found (Ok Pending) = []
+answer_found (Ok NotFound) = []
 
-abbrev pub got_number_is : Got → ℕ
-got_number_is (Rejected why) = number_of why
-got_number_is Nothing = 0
-got_number_is (Is n) = 0
+abbrev pub got_number_is : Result (Option Neighbor) Refusal → ℕ
+got_number_is (Err why) = number_of why
+got_number_is (Ok None) = 0
+got_number_is (Ok (Some n)) = 0
 
 -- the neighbour, if there is one
-abbrev pub got_shown : Got → List Neighbor
-got_shown (Rejected why) = []
-got_shown Nothing = []
-got_shown (Is n) = n ∷ []
+abbrev pub got_shown : Result (Option Neighbor) Refusal → List Neighbor
+got_shown (Err why) = []
+got_shown (Ok None) = []
+got_shown (Ok (Some n)) = n ∷ []
+
+-- a listing refuses nothing, and shows a neighbour
+abbrev pub listed_number : Option Neighbor → ℕ
+listed_number None = 0
+listed_number (Some n) = 0
+
+abbrev pub listed_shown : Option Neighbor → List Neighbor
+listed_shown None = []
+listed_shown (Some n) = n ∷ []
 
 -- "Reachable is Found, even past its time; Started and Incomplete are Pending; the rest NotFound."
 abbrev pub answer_of : State → Answer

@@ -1,5 +1,6 @@
 pub mod Answers
 pub mod NeighborRules
+pub mod Ranks
 pub mod CacheCalls
 pub mod Distinct
 pub mod Eviction

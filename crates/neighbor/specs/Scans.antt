@@ -1,9 +1,8 @@
 -- Document 01, "Neighbour cache": lookup, get and remove, said of places and not as scans. Assumes nothing.
-use Rattle.std.specs.Prelude.{ℕ, ◌+◌, ◌-◌, ◌<◌, ◌≡◌, Bool, List, length, get_or}
+use Rattle.std.specs.Prelude.{ℕ, ◌+◌, ◌-◌, ◌<◌, ◌≡◌, Bool, List, length, get_or, Ok, Some, None}
 use Rattle.table.specs.First.{FirstAt, NoneFrom}
 use Rattle.table.specs.Table.{first_of}
 use Rattle.neighbor.specs.declared.Answer.TheVariants.{NotFound}
-use Rattle.neighbor.specs.declared.Got.TheVariants.{Nothing, Is}
 use Rattle.neighbor.specs.Answers.{answer_of, listed}
 use Rattle.neighbor.specs.CacheCalls.{blank, answer_in, shown}
 use Rattle.neighbor.specs.Eviction.{state_at}
@@ -19,13 +18,13 @@ pub record FirstOfLaw : Type 1 where
 
 -- "Lookup: Reachable is Found ..; the rest NotFound": by the state of the key's entry, and NotFound where it has none
 pub record LookupLaw : Type 0 where
-  pub has : (k : Key) (t : Table) (j : ℕ) → FirstAt blank (is_key k) 0 t j → first_of (is_key k) answer_in NotFound t ≡ answer_of (state_at t j)
-  pub has_not : (k : Key) (t : Table) (j : ℕ) → NoneFrom blank (is_key k) 0 t j → first_of (is_key k) answer_in NotFound t ≡ NotFound
+  pub has : (k : Key) (t : Table) (j : ℕ) → FirstAt blank (is_key k) 0 t j → first_of (is_key k) answer_in (Ok NotFound) t ≡ Ok (answer_of (state_at t j))
+  pub has_not : (k : Key) (t : Table) (j : ℕ) → NoneFrom blank (is_key k) 0 t j → first_of (is_key k) answer_in (Ok NotFound) t ≡ Ok NotFound
 
 -- "removing or listing an absent key answers Nothing", and a key that is there its entry
 pub record GetLaw : Type 0 where
-  pub has : (k : Key) (t : Table) (j : ℕ) → FirstAt blank (is_key k) 0 t j → first_of (is_key k) shown Nothing t ≡ Is (listed (get_or t j blank))
-  pub has_not : (k : Key) (t : Table) (j : ℕ) → NoneFrom blank (is_key k) 0 t j → first_of (is_key k) shown Nothing t ≡ Nothing
+  pub has : (k : Key) (t : Table) (j : ℕ) → FirstAt blank (is_key k) 0 t j → first_of (is_key k) shown (Ok None) t ≡ Ok (Some (listed (get_or t j blank)))
+  pub has_not : (k : Key) (t : Table) (j : ℕ) → NoneFrom blank (is_key k) 0 t j → first_of (is_key k) shown (Ok None) t ≡ Ok None
 
 -- "Remove moves the last entry in": of a key whose entry stands at `find`
 pub record RemoveLaw : Type 0 where

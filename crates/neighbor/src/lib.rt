@@ -1,14 +1,16 @@
 // The neighbour cache: the map from (interface, address) to hardware address, and the resolutions on their way.
 #![tactic(auto)]
 
-ghost use Rattle.std.specs.Prelude.{◌<◌, ◌≡◌, ◌&&◌, ◌||◌, ltb, eqb};
+ghost use Rattle.std.specs.Prelude.{◌<◌, ◌≡◌, min, IfSome};
 ghost use Rattle.neighbor.specs.Answers.{answer_of, listed, listed_state};
-ghost use Rattle.neighbor.specs.CacheCalls.{empty, key, LookedUp, changed_to, put_in, StartTo, InsertTo, FillTo, ClearTo, GotBy, ListedAt, RemovedTo};
-ghost use Rattle.neighbor.specs.NeighborRules.{cache_room, is_key, key_of, kind, time, victim};
+ghost use Rattle.neighbor.specs.CacheCalls.{empty, entries, key, LookedUp, changed_to, put_in, StartTo, InsertTo, FillTo, ClearTo, GotBy, ListedAt, RemovedTo};
+ghost use Rattle.neighbor.specs.NeighborRules.{before, cache_room, is_key, key_of, victim};
+ghost use Rattle.neighbor.specs.Ranks.{rank_of};
+ghost use Rattle.table.specs.Calls.{place_of};
 
 use table::count_of;
 use time::{Duration, Instant};
-use wire::error::{Check, Outcome, Refusal, check_fill, check_iface, check_key};
+use wire::error::{Refusal, check_fill, check_iface, check_key};
 use wire::ethernet::HardwareAddress;
 use wire::ipv6::Ipv6Addr;
 
@@ -44,16 +46,16 @@ pub struct Entry {
     pub state: State,
 }
 
+// Fixed memory: an array, and a count, which may be above its size (document 01).
 #[derive(Clone, Copy)]
 pub struct NeighborCache {
     pub slots: [Entry; NEIGHBOR_CACHE_COUNT],
     pub len: usize,
 }
 
-// An answer to a lookup.
+// An answer to a lookup that is not refused.
 #[derive(Clone, Copy)]
 pub enum Answer {
-    Refused(Refusal),
     Found(HardwareAddress),
     Pending,
     NotFound,
@@ -79,82 +81,55 @@ pub enum NeighborState {
     },
 }
 
-// An entry that was asked for, or taken out.
-#[derive(Clone, Copy)]
-pub enum Got {
-    Refused(Refusal),
-    Nothing,
-    Is(Neighbor),
-}
-
+// States go by value (document 01): what a call answers stands beside what it leaves.
 #[derive(Clone, Copy)]
 pub struct Changed {
     pub cache: NeighborCache,
-    pub outcome: Outcome,
+    pub outcome: Result<(), Refusal>,
 }
 
 #[derive(Clone, Copy)]
 pub struct Removed {
     pub cache: NeighborCache,
-    pub taken: Got,
+    pub taken: Result<Option<Neighbor>, Refusal>,
 }
 
-// What is evicted first: the lowest kind, and of one kind the earliest time.
-#[derive(Clone, Copy)]
-struct Rank {
-    kind: u8,
-    at: u64,
-}
-
-impl Rank {
-    fn is_before(self, other: Rank) -> bool
-        ensures { result ≡ (ltb self.kind other.kind || (eqb self.kind other.kind && ltb self.at other.at)) }
-    {
-        let lower_kind = self.kind < other.kind;
-        let same_kind = self.kind == other.kind;
-        let earlier = self.at < other.at;
-        lower_kind | same_kind & earlier
-    }
+// What is evicted first: the first kind in this order, and of one kind the earliest time.
+#[derive(Clone, Copy, PartialEq, Eq, PartialOrd, Ord)]
+enum Rank {
+    Stale,
+    Reachable(u64),
+    Incomplete(u64),
+    Started,
 }
 
 impl State {
     fn rank(self) -> Rank
-        ensures { (result.kind ≡ kind self) × (result.at ≡ time self) }
+        ensures { result ≡ rank_of self }
     {
         match self {
-            State::Stale { hardware_addr: _ } => Rank { kind: 0, at: 0 },
-            State::Reachable {
-                hardware_addr: _,
-                expires_at,
-            } => Rank {
-                kind: 1,
-                at: expires_at.0,
-            },
-            State::Incomplete {
-                probes_sent: _,
-                retrans_at,
-            } => Rank {
-                kind: 2,
-                at: retrans_at.0,
-            },
-            State::Started => Rank { kind: 3, at: 0 },
+            State::Stale { .. } => Rank::Stale,
+            State::Reachable { expires_at, .. } => Rank::Reachable(expires_at.0),
+            State::Incomplete { retrans_at, .. } => Rank::Incomplete(retrans_at.0),
+            State::Started => Rank::Started,
         }
+    }
+
+    // Whether it is evicted before the other.
+    #[tactic(auto, using(crate::proofs::Choosing::ranks_lt))]
+    fn is_before(self, other: State) -> bool
+        ensures { result ≡ before self other }
+    {
+        self.rank() < other.rank()
     }
 
     fn answer(self) -> Answer
         ensures { result ≡ answer_of self }
     {
         match self {
-            State::Reachable {
-                hardware_addr,
-                expires_at: _,
-            } => Answer::Found(hardware_addr),
-            State::Incomplete {
-                probes_sent: _,
-                retrans_at: _,
-            } => Answer::Pending,
-            State::Started => Answer::Pending,
-            State::Stale { hardware_addr: _ } => Answer::NotFound,
+            State::Reachable { hardware_addr, .. } => Answer::Found(hardware_addr),
+            State::Incomplete { .. } | State::Started => Answer::Pending,
+            State::Stale { .. } => Answer::NotFound,
         }
     }
 
@@ -162,21 +137,15 @@ impl State {
         ensures { result ≡ listed_state self }
     {
         match self {
-            State::Started => NeighborState::Incomplete,
-            State::Incomplete {
-                probes_sent: _,
-                retrans_at: _,
-            } => NeighborState::Incomplete,
+            State::Started | State::Incomplete { .. } => NeighborState::Incomplete,
             State::Reachable {
                 hardware_addr,
                 expires_at,
             } => NeighborState::Reachable {
-                hardware_addr: hardware_addr,
-                expires_at: expires_at,
+                hardware_addr,
+                expires_at,
             },
-            State::Stale { hardware_addr } => NeighborState::Stale {
-                hardware_addr: hardware_addr,
-            },
+            State::Stale { hardware_addr } => NeighborState::Stale { hardware_addr },
         }
     }
 }
@@ -186,22 +155,16 @@ impl Entry {
     pub fn has_key(self, iface: u8, addr: Ipv6Addr) -> bool
         ensures { result ≡ is_key (key iface addr) self }
     {
-        let own_addr = self.addr;
-        let same_iface = iface == self.iface;
-        let same_addr = addr.same(own_addr);
-        same_iface & same_addr
+        iface == self.iface && addr == self.addr
     }
 
     fn listed(self) -> Neighbor
         ensures { result ≡ listed self }
     {
-        let addr = self.addr;
-        let state = self.state;
-        let shown = state.listed();
         Neighbor {
             iface: self.iface,
-            addr: addr,
-            state: shown,
+            addr: self.addr,
+            state: self.state.listed(),
         }
     }
 }
@@ -219,63 +182,43 @@ impl NeighborCache {
     pub fn new() -> NeighborCache
         ensures { result ≡ empty }
     {
-        let nowhere = Ipv6Addr { hi: 0, lo: 0 };
         let blank = Entry {
             iface: 0,
-            addr: nowhere,
+            addr: Ipv6Addr { hi: 0, lo: 0 },
             state: State::Started,
         };
-        let slots = [blank; NEIGHBOR_CACHE_COUNT];
         NeighborCache {
-            slots: slots,
+            slots: [blank; NEIGHBOR_CACHE_COUNT],
             len: 0,
         }
     }
 
     // The time is not looked at: an entry past its time is found until a sweep.
-    pub fn lookup(self, iface: u8, addr: Ipv6Addr) -> Answer
+    pub fn lookup(self, iface: u8, addr: Ipv6Addr) -> Result<Answer, Refusal>
         ensures { LookedUp self iface addr result }
     {
-        let check = check_key(iface, addr);
-        match check {
-            Check::Refused(why) => {
-                return Answer::Refused(why);
-            }
-            Check::Fine => {}
+        check_key(iface, addr)?;
+        match self.find(iface, addr) {
+            Some(i) => Ok(self.slots[i].state.answer()),
+            None => Ok(Answer::NotFound),
         }
-        let count = count_of(self.len, NEIGHBOR_CACHE_COUNT);
-        let mut i = 0;
-        while i < count {
-            let entry = self.slots[i];
-            if entry.has_key(iface, addr) {
-                let state = entry.state;
-                return state.answer();
-            }
-            i += 1;
-        }
-        Answer::NotFound
     }
 
     // The first solicitation is the caller's to send. A sweep sets the timer, since this call has no clock.
     pub fn start_resolution(self, iface: u8, addr: Ipv6Addr) -> Changed
         ensures { StartTo self iface addr result }
     {
-        let check = check_key(iface, addr);
-        match check {
-            Check::Refused(why) => {
-                return Changed {
-                    cache: self,
-                    outcome: Outcome::Refused(why),
-                };
-            }
-            Check::Fine => {}
+        if let Err(why) = check_key(iface, addr) {
+            return Changed {
+                cache: self,
+                outcome: Err(why),
+            };
         }
-        let entry = Entry {
-            iface: iface,
-            addr: addr,
+        self.insert_state(Entry {
+            iface,
+            addr,
             state: State::Started,
-        };
-        self.insert_state(entry)
+        })
     }
 
     pub fn fill(
@@ -287,27 +230,20 @@ impl NeighborCache {
     ) -> Changed
         ensures { FillTo self iface addr hardware_addr now result }
     {
-        let check = check_fill(now, iface, addr, hardware_addr);
-        match check {
-            Check::Refused(why) => {
-                return Changed {
-                    cache: self,
-                    outcome: Outcome::Refused(why),
-                };
-            }
-            Check::Fine => {}
+        if let Err(why) = check_fill(now, iface, addr, hardware_addr) {
+            return Changed {
+                cache: self,
+                outcome: Err(why),
+            };
         }
-        let expires_at = now.add(Self::ENTRY_LIFETIME);
-        let state = State::Reachable {
-            hardware_addr: hardware_addr,
-            expires_at: expires_at,
-        };
-        let entry = Entry {
-            iface: iface,
-            addr: addr,
-            state: state,
-        };
-        self.insert_state(entry)
+        self.insert_state(Entry {
+            iface,
+            addr,
+            state: State::Reachable {
+                hardware_addr,
+                expires_at: now.add(Self::ENTRY_LIFETIME),
+            },
+        })
     }
 
     // For an application that knows the neighbour. It expires like any other, so it has to come again.
@@ -320,192 +256,121 @@ impl NeighborCache {
     ) -> Changed
         ensures { InsertTo self iface addr hardware_addr expires_at result }
     {
-        let check = check_fill(expires_at, iface, addr, hardware_addr);
-        match check {
-            Check::Refused(why) => {
-                return Changed {
-                    cache: self,
-                    outcome: Outcome::Refused(why),
-                };
-            }
-            Check::Fine => {}
+        if let Err(why) = check_fill(expires_at, iface, addr, hardware_addr) {
+            return Changed {
+                cache: self,
+                outcome: Err(why),
+            };
         }
-        let state = State::Reachable {
-            hardware_addr: hardware_addr,
-            expires_at: expires_at,
-        };
-        let entry = Entry {
-            iface: iface,
-            addr: addr,
-            state: state,
-        };
-        self.insert_state(entry)
+        self.insert_state(Entry {
+            iface,
+            addr,
+            state: State::Reachable {
+                hardware_addr,
+                expires_at,
+            },
+        })
     }
 
-    pub fn get(self, iface: u8, addr: Ipv6Addr) -> Got
+    pub fn get(self, iface: u8, addr: Ipv6Addr) -> Result<Option<Neighbor>, Refusal>
         ensures { GotBy self iface addr result }
     {
-        let check = check_iface(iface);
-        match check {
-            Check::Refused(why) => {
-                return Got::Refused(why);
-            }
-            Check::Fine => {}
+        check_iface(iface)?;
+        match self.find(iface, addr) {
+            Some(i) => Ok(Some(self.slots[i].listed())),
+            None => Ok(None),
         }
-        let count = count_of(self.len, NEIGHBOR_CACHE_COUNT);
-        let mut i = 0;
-        while i < count {
-            let entry = self.slots[i];
-            if entry.has_key(iface, addr) {
-                let found = entry.listed();
-                return Got::Is(found);
-            }
-            i += 1;
-        }
-        Got::Nothing
     }
 
     // The entry at an index, for a listing.
-    pub fn at(self, index: usize) -> Got
+    pub fn at(self, index: usize) -> Option<Neighbor>
         ensures { ListedAt self index result }
     {
         let count = count_of(self.len, NEIGHBOR_CACHE_COUNT);
-        if index < count {
-            let entry = self.slots[index];
-            let found = entry.listed();
-            return Got::Is(found);
-        }
-        Got::Nothing
+        self.slots[..count].get(index).map(|entry| entry.listed())
     }
 
     // What stood last fills the hole.
-    pub fn remove(self, iface: u8, addr: Ipv6Addr) -> Removed
+    pub fn remove(mut self, iface: u8, addr: Ipv6Addr) -> Removed
         ensures { RemovedTo self iface addr result }
     {
-        let mut cache = self;
-        let check = check_iface(iface);
-        match check {
-            Check::Refused(why) => {
-                return Removed {
-                    cache: cache,
-                    taken: Got::Refused(why),
-                };
-            }
-            Check::Fine => {}
+        if let Err(why) = check_iface(iface) {
+            return Removed {
+                cache: self,
+                taken: Err(why),
+            };
         }
-        let count = count_of(cache.len, NEIGHBOR_CACHE_COUNT);
-        let mut i = 0;
-        while i < count {
-            let entry = cache.slots[i];
-            if entry.has_key(iface, addr) {
-                let last = cache.slots[count - 1];
-                cache.slots[i] = last;
-                cache.len = count - 1;
-                let taken = entry.listed();
-                return Removed {
-                    cache: cache,
-                    taken: Got::Is(taken),
-                };
-            }
-            i += 1;
-        }
+        let Some(i) = self.find(iface, addr) else {
+            return Removed {
+                cache: self,
+                taken: Ok(None),
+            };
+        };
+        let taken = self.slots[i].listed();
+        let count = count_of(self.len, NEIGHBOR_CACHE_COUNT);
+        self.slots[i] = self.slots[count - 1];
+        self.len = count - 1;
         Removed {
-            cache: cache,
-            taken: Got::Nothing,
+            cache: self,
+            taken: Ok(Some(taken)),
         }
     }
 
     // Removes an interface's entries; the others keep their order.
-    pub fn clear_iface(self, iface: u8) -> Changed
+    pub fn clear_iface(mut self, iface: u8) -> Changed
         ensures { ClearTo self iface result }
     {
-        let mut cache = self;
-        let check = check_iface(iface);
-        match check {
-            Check::Refused(why) => {
-                return Changed {
-                    cache: cache,
-                    outcome: Outcome::Refused(why),
-                };
-            }
-            Check::Fine => {}
+        if let Err(why) = check_iface(iface) {
+            return Changed {
+                cache: self,
+                outcome: Err(why),
+            };
         }
-        let count = count_of(cache.len, NEIGHBOR_CACHE_COUNT);
-        let mut kept = 0;
-        let mut i = 0;
-        while i < count {
-            let at = i;
-            i += 1;
-            if iface != cache.slots[at].iface {
-                let entry = cache.slots[at];
-                cache.slots[kept] = entry;
-                kept += 1;
-            }
-        }
-        cache.len = kept;
+        let count = count_of(self.len, NEIGHBOR_CACHE_COUNT);
+        self.len = table::retain(&mut self.slots, count, |entry| iface != entry.iface);
         Changed {
-            cache: cache,
-            outcome: Outcome::Done,
+            cache: self,
+            outcome: Ok(()),
         }
+    }
+
+    // The place of the key's entry.
+    fn find(&self, iface: u8, addr: Ipv6Addr) -> Option<usize>
+        ensures place { result ≡ place_of (is_key (key iface addr)) (entries self.now) }
+        ensures within { IfSome result (λ i. i < min self.now.len cache_room) }
+    {
+        let count = count_of(self.len, NEIGHBOR_CACHE_COUNT);
+        table::position(&self.slots[..count], |entry| entry.has_key(iface, addr))
     }
 
     // Puts an entry over that of its key; else at the end; else, in a full cache, over the one that is evicted.
     fn insert_state(mut self, entry: Entry) -> Changed
         ensures { result ≡ changed_to (put_in self (key_of entry) entry.state) }
     {
-        let addr = entry.addr;
         let count = count_of(self.len, NEIGHBOR_CACHE_COUNT);
-        let mut i = 0;
-        while i < count {
-            let known = self.slots[i];
-            if known.has_key(entry.iface, addr) {
-                self.slots[i] = entry;
-                self.len = count;
-                return Changed {
-                    cache: self,
-                    outcome: Outcome::Done,
-                };
-            }
-            i += 1;
-        }
-        if count < NEIGHBOR_CACHE_COUNT {
-            self.slots[count] = entry;
-            self.len = count + 1;
-            return Changed {
-                cache: self,
-                outcome: Outcome::Done,
-            };
-        }
-        let slots = self.slots;
-        let index = evicted(slots);
-        self.slots[index] = entry;
-        self.len = count;
+        let (at, len) = match self.find(entry.iface, entry.addr) {
+            Some(i) => (i, count),
+            None if count < NEIGHBOR_CACHE_COUNT => (count, count + 1),
+            None => (evicted(&self.slots), count),
+        };
+        self.slots[at] = entry;
+        self.len = len;
         Changed {
             cache: self,
-            outcome: Outcome::Done,
+            outcome: Ok(()),
         }
     }
 }
 
-// The index that a full cache gives up: what can be had again at once first, a resolution last, since packets wait on it.
-// It takes the slots alone: of a whole cache the compiler would make a copy more.
-fn evicted(slots: [Entry; NEIGHBOR_CACHE_COUNT]) -> usize
-    ensures { (result ≡ victim slots) × (result < cache_room) }
+// The index that a full cache gives up: what can be had again at once first, a resolution last, since packets wait on it. No
+// `min_by_key`: it answers an Option, and the table is never empty.
+fn evicted(slots: &[Entry; NEIGHBOR_CACHE_COUNT]) -> usize
+    ensures { (result ≡ victim slots.now) × (result < cache_room) }
 {
-    let first = slots[0];
-    let first_state = first.state;
-    let mut best = first_state.rank();
     let mut index = 0;
-    let mut i = 1;
-    while i < NEIGHBOR_CACHE_COUNT {
-        let entry = slots[i];
-        let state = entry.state;
-        let rank = state.rank();
-        let at = i;
-        i += 1;
-        if rank.is_before(best) {
-            best = rank;
-            index = at;
+    for (i, entry) in slots.iter().enumerate() {
+        if entry.state.is_before(slots[index].state) {
+            index = i;
         }
     }
     index

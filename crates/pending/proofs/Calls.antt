@@ -1,34 +1,40 @@
 -- From what a call found in the queue to its promise. `s` are the slots, `n` the number of packets. Assumes nothing.
-use Prim.Native.Nat.{ℕ, ◌+◌, ◌≤◌, ◌<◌, min}
+use Prim.Native.Nat.{ℕ, zero, suc, ◌-◌, ◌+◌, ◌≤◌, ◌<◌, min}
 use borrow.Author.Tests.{lt-ltb, le-ltb}
-use lib.ListN.{length, take, drop, set, get_or, length-append, drop_of_length-le}
-use lib.Seq.{take-append_seam, drop-append_seam, drop-set-lt}
+use lib.ListN.{length, take, drop, set, get_or, length-take, length-drop, length-set, length-append}
+use lib.Seq.{take-append_seam, drop-append_seam, drop-set-lt, take-suc, take_all, get_or-take}
 use mathlib.Core.Bool.{Bool, true, false, cond, not, true≢false}
-use mathlib.Core.List.{List, [], ◌∷◌, ◌++◌}
+use mathlib.Core.List.{List, [], ◌∷◌, ◌++◌, append-nil}
+use mathlib.Core.Logic.{◌⊎◌, inl, inr}
 use mathlib.Core.Path.{◌≡◌, refl, sym, ap, ap₂, subst, ◌∙◌}
+use native.Mathlib.Numerals.{add-one}
 use native.Mathlib.Omega.{arith}
+use denote.Ref.{Bor}
+use Rattle.std.proofs.lemmas.List.{map-append}
+use Rattle.std.specs.List.{find, copy_within}
+use Rattle.std.specs.Option.{MatchOption, option_map}
+use Rattle.std.specs.Prelude.{Option, None, Some, ℕ, Result, Ok, Err}
 use Rattle.neighbor.specs.CacheCalls.{key, entries, unless}
 use Rattle.wire.specs.Refusals.{iface_check, check_number}
 use Rattle.neighbor.specs.NeighborRules.{Table, Key, is_key}
+use Rattle.neighbor.specs.declared.Entry.{Entry}
 use Rattle.neighbor.specs.declared.NeighborCache.{NeighborCache}
-use Rattle.wire.specs.declared.error.Outcome.TheVariants.{Refused, Done}
-use Rattle.pending.specs.QueueCalls.{queue_room, packets, with_packets, blank, zeros, push_number, pushed_out, push_by, PushedTo, release_number, released_out, handle_alone, release_by, ReleasedTo, handles_of, purged_of, OrphansPurged, purge_by, PurgedTo, WaitingAt}
-use Rattle.pending.specs.QueueRules.{Queue, key_of, packet, has_key, is_full, push_list, oldest, push_answer, gone, release_list, handed, release_answer, awaits_in, orphaned, on_iface, dropped_handles}
+use Rattle.wire.specs.Refusals.{outcome_number}
+use Rattle.pending.specs.QueueCalls.{queue_room, packets, with_packets, blank, zeros, push_number, pushed_out, push_by, PushedTo, release_number, released_out, handle_alone, release_by, ReleasedTo, handles_of, purged_of, PurgesBy, OrphansPurged, purge_by, PurgedTo}
+use Rattle.pending.specs.QueueRules.{Queue, key_of, packet, has_key, is_full, push_list, oldest, push_answer, release_list, handed, release_answer, awaits_in, orphaned, on_iface, dropped_handles}
 use Rattle.pending.specs.declared.Handles.{Handles}
 use Rattle.pending.specs.declared.PendingPacket.{PendingPacket}
 use Rattle.pending.specs.declared.PendingQueue.{PendingQueue}
 use Rattle.pending.specs.declared.Purged.{Purged}
-use Rattle.pending.specs.declared.Push.TheVariants.{Refused as Denied, Queued, Dropped}
-use Rattle.pending.specs.declared.Push.{Push}
 use Rattle.pending.specs.declared.Pushed.{Pushed}
-use Rattle.pending.specs.declared.Release.TheVariants.{Refused as Rejected, Nothing, Handle}
-use Rattle.pending.specs.declared.Release.{Release}
 use Rattle.pending.specs.declared.Released.{Released}
-use Rattle.pending.specs.declared.Waiting.TheVariants.{Nothing as NoPacket, Is}
-use Rattle.table.proofs.Laws.{Made, made, counted, take_count, entry_at, entries_from, at_end, one_more, agree_from, Collecting, collect, nothing, collected, Compacting, compacting, next, one_gone, one_kept, compacted, Moving, moving, moved, Finding, finding, find_next, found_goes, found_any, absent_any, Scanning, scanning, scan_next, scan_found}
-use Rattle.table.specs.Table.{filled, any_of, first_of, kept, without}
-use Rattle.wire.specs.declared.error.Check.TheVariants.{Fine, Refused as Fails}
-use Rattle.wire.specs.declared.error.Check.{Check}
+use Rattle.table.proofs.Laws.{Made, made, counted, take_count, entry_at, entries_from, at_end, one_more, agree_from}
+use Rattle.pending.proofs.Scans.{release_law}
+use Rattle.table.proofs.First.{first_from_law}
+use Rattle.table.proofs.Kept.{kept_append}
+use Rattle.table.specs.Calls.{place_of}
+use Rattle.table.specs.First.{FirstAt, NoneFrom}
+use Rattle.table.specs.Table.{filled, first_from, any_of, first_of, kept, dropped, without}
 use Rattle.wire.specs.declared.error.Refusal.{Refusal}
 use Rattle.wire.specs.declared.ipv6.Ipv6Addr.{Ipv6Addr}
 
@@ -38,31 +44,31 @@ packets_of q xs = take-append_seam xs (drop (length xs) q.slots)
 
 -- One packet more
 
-appended : {s₀ xs s : Queue} {k : ℕ} (y : PendingPacket) → Made s₀ xs s k → k < length s → Made s₀ (xs ++ (y ∷ [])) (set s k y) (k + 1)
-appended {s₀} {xs} {s} {k} y m h =
+appended : {A : Type 0} {s₀ xs s : List A} {k : ℕ} (y : A) → Made s₀ xs s k → k < length s → Made s₀ (xs ++ (y ∷ [])) (set s k y) (k + 1)
+appended {A} {s₀} {xs} {s} {k} y m h =
     let front : take k s ≡ xs =
-    ap₂ (λ (i : ℕ) (l : Queue). take i l) m.count m.slots ∙ take-append_seam xs (drop (length xs) s₀) in
+    ap₂ (λ (i : ℕ) (l : List A). take i l) m.count m.slots ∙ take-append_seam xs (drop (length xs) s₀) in
     let back : drop k s ≡ drop k s₀ =
-    ap₂ (λ (i : ℕ) (l : Queue). drop i l) m.count m.slots
+    ap₂ (λ (i : ℕ) (l : List A). drop i l) m.count m.slots
     ∙ (drop-append_seam xs (drop (length xs) s₀) ∙ ap (λ (i : ℕ). drop i s₀) (sym m.count)) in
     let c : length (xs ++ (y ∷ [])) ≡ k + 1 = simp length-append (omega (arith, m.count)) in
     record {
       slots =
-          made s₀ (set s k y) (xs ++ (y ∷ [])) (k + 1) c (one_more s k y h ∙ ap (λ (l : Queue). l ++ (y ∷ [])) front)
+          made s₀ (set s k y) (xs ++ (y ∷ [])) (k + 1) c (one_more s k y h ∙ ap (λ (l : List A). l ++ (y ∷ [])) front)
           (drop-set-lt (k + 1) s k y (omega arith) ∙ agree_from s s₀ k back);
       count = sym c;
     }
 
 -- Push
 
-push_gives : (b : Bool) (h : ℕ) → pushed_out (cond b (Dropped h) Queued) ≡ cond b (h ∷ []) []
+push_gives : (b : Bool) (h : ℕ) → pushed_out (cond b (Ok (Some h)) (Ok None)) ≡ cond b (h ∷ []) []
 push_gives true h = refl
 push_gives false h = refl
 
-pushed_by : (x : Check) (q : PendingQueue) (p : PendingPacket) → pushed_out (push_by x q p).answer ≡ unless x (cond (is_full queue_room (packets q)) (oldest (packets q) ∷ []) [])
+pushed_by : (x : Result (Unit {0}) Refusal) (q : PendingQueue) (p : PendingPacket) → pushed_out (push_by x q p).answer ≡ unless x (cond (is_full queue_room (packets q)) (oldest (packets q) ∷ []) [])
 unfolding push_answer
-pushed_by (Fails why) q p = refl
-pushed_by Fine q p = push_gives (is_full queue_room (packets q)) (oldest (packets q))
+pushed_by (Err why) q p = refl
+pushed_by (Ok tt) q p = push_gives (is_full queue_room (packets q)) (oldest (packets q))
 
 module _ (q : PendingQueue) (iface : ℕ) (addr : Ipv6Addr) (handle : ℕ) where
   pushed_as : (r : Pushed) → r ≡ push_by (iface_check iface) q (packet (key iface addr) handle) → push_number r.answer ≡ check_number (iface_check iface)
@@ -70,18 +76,14 @@ module _ (q : PendingQueue) (iface : ℕ) (addr : Ipv6Addr) (handle : ℕ) where
   pushed_as r e n =
       record { is = e; number = n; gives = ap (λ (x : Pushed). pushed_out x.answer) e ∙ pushed_by (iface_check iface) q (packet (key iface addr) handle) }
 
-  pub push_refused : (why : Refusal) → iface_check iface ≡ Fails why → PushedTo q iface addr handle (record { queue = q; answer = Denied why })
-  push_refused why e =
-      pushed_as _ (ap (λ (x : Check). push_by x q (packet (key iface addr) handle)) (sym e)) (ap check_number (sym e))
-
-  pub pushed : (s : Queue) (n : ℕ) (a : Push) → iface_check iface ≡ Fine → Made q.slots (push_list queue_room (packet (key iface addr) handle) (packets q)) s n
+  pub pushed : (s : Queue) (n : ℕ) (a : Result (Option ℕ) Refusal) → iface_check iface ≡ Ok tt → Made q.slots (push_list queue_room (packet (key iface addr) handle) (packets q)) s n
       → a ≡ push_answer queue_room (packets q) → push_number a ≡ 0 → PushedTo q iface addr handle (record { queue = record { slots = s; len = n }; answer = a })
   pushed s n a e m t z =
       let made : ◌≡◌ {A = Pushed} (record { queue = record { slots = s; len = n }; answer = a })
       (record { queue = with_packets q (push_list queue_room (packet (key iface addr) handle) (packets q)); answer = push_answer queue_room (packets q) }) =
-      ap₂ (λ (x : PendingQueue) (y : Push). record { queue = x; answer = y })
+      ap₂ (λ (x : PendingQueue) (y : Result (Option ℕ) Refusal). record { queue = x; answer = y })
       (ap₂ (λ (x : Queue) (y : ℕ). record { slots = x; len = y }) m.slots m.count) t in
-      pushed_as _ (made ∙ ap (λ (x : Check). push_by x q (packet (key iface addr) handle)) (sym e)) (z ∙ ap check_number (sym e))
+      pushed_as _ (made ∙ ap (λ (x : Result (Unit {0}) Refusal). push_by x q (packet (key iface addr) handle)) (sym e)) (z ∙ ap check_number (sym e))
 
 module _ (y : PendingPacket) (s : Queue) (len n : ℕ) (full : length s ≡ 8) (e : n ≡ min len 8) where
   count : n ≡ length (take len s)
@@ -100,59 +102,77 @@ module _ (y : PendingPacket) (s : Queue) (len n : ℕ) (full : length s ≡ 8) (
       let m : n + 1 ≡ length (take len s ++ (y ∷ [])) = simp length-append (omega (arith, count)) in
       record { slots = at_end s len n count y (omega arith) ∙ ap (λ (l : Queue). filled s l) w; count = m ∙ ap length w }
 
-  pub push_queued : n < 8 → Queued ≡ push_answer queue_room (take len s)
+  pub push_queued : n < 8 → Ok None ≡ push_answer queue_room (take len s)
   unfolding push_answer
   push_queued h = simp (room h)
 
-  pub push_full : (t : Queue) (hole after : ℕ) → Moving 8 s len 0 n t hole after → n ≤ after → 8 ≤ n → Made s (push_list queue_room y (take len s)) (set t hole y) n
+  pub push_full : 8 ≤ n → Made s (push_list queue_room y (take len s)) (set (copy_within s 1 (length s) 0) 7 y) 8
   unfolding push_list
-  push_full t hole after inv h l =
-      let k : hole + 1 ≡ n = omega (arith, inv.step, inv.top) in
-      let w : without (take len s) 0 ++ (y ∷ []) ≡ push_list queue_room y (take len s) = simp (no_room l) in
-      let m : Made s (without (take len s) 0 ++ (y ∷ [])) (set t hole y) (hole + 1) =
-      appended y (moved blank inv h) (omega (arith, inv.full, inv.step, inv.top, inv.most)) in
-      record { slots = m.slots ∙ ap (λ (u : Queue). filled s u) w; count = sym k ∙ (m.count ∙ ap length w) }
+  push_full h =
+      let all : take len s ≡ s = take_all len s (omega (arith, count, length-take len s)) in
+      let seven : length (drop 1 s) ≡ 7 = omega (arith, length-drop 1 s) in
+      let moved : copy_within s 1 (length s) 0 ≡ filled s (drop 1 s) = simp (full, seven, take_all 7 (drop 1 s) (omega arith)) in
+      let m : Made s (drop 1 s ++ (y ∷ [])) (set (copy_within s 1 (length s) 0) 7 y) 8 =
+      appended y (record { slots = moved; count = sym seven })
+      (rw moved (omega (arith, seven, length-append (drop 1 s) (drop (length (drop 1 s)) s), length-drop (length (drop 1 s)) s))) in
+      let w : drop 1 s ++ (y ∷ []) ≡ push_list queue_room y (take len s) = simp (no_room h) (ap (λ (t : Queue). drop 1 t ++ (y ∷ [])) (sym all)) in
+      record { slots = m.slots ∙ ap (λ (u : Queue). filled s u) w; count = m.count ∙ ap length w }
 
-  pub push_dropped : 8 ≤ n → Dropped (get_or s 0 blank).handle ≡ push_answer queue_room (take len s)
+  pub push_dropped : 8 ≤ n → Ok (Some (get_or s 0 blank).handle) ≡ push_answer queue_room (take len s)
   unfolding push_answer
   push_dropped h =
       let l : take len s ≡ get_or s 0 blank ∷ drop 1 (take len s) = entries_from blank s len 0 (omega (arith, count)) in
       let o : oldest (take len s) ≡ (get_or s 0 blank).handle = ap oldest l in
-      ap Dropped (sym o) ∙ simp (no_room h)
+      ap (λ x. Ok (Some x)) (sym o) ∙ simp (no_room h)
 
 -- Release
 
--- the loop that looks for a key: `q` is the queue `q₀` still, and none of its first `i` packets has the key
-pub record Seeking (k : Key) (q₀ q : PendingQueue) (n i : ℕ) : Type 0 where
-  pub same : q ≡ q₀
-  pub finding : Finding 8 (has_key k) gone [] q.slots q.len n i
-  pub scanning : Scanning 8 (has_key k) handed Nothing q.slots q.len n i
+-- the place that a search gives, in words
+abbrev Placed : (PendingPacket → Bool) → Queue → Option ℕ → Type 0
+Placed test xs None = NoneFrom blank test 0 xs (length xs)
+Placed test xs (Some i) = FirstAt blank test 0 xs i
 
-pub seeking : (k : Key) (q : PendingQueue) (n : ℕ) → length q.slots ≡ 8 → n ≡ min q.len 8 → Seeking k q q n 0
-seeking k q n full e =
-    record {
-      same = refl;
-      finding = finding 8 (has_key k) gone [] q.slots q.len n full e;
-      scanning = scanning 8 (has_key k) handed Nothing q.slots q.len n full e;
-    }
+placed : (test : PendingPacket → Bool) (xs : Queue) (r : Option ℕ) → r ≡ place_of test xs → Placed test xs r
+unfolding place_of
+placed test xs r e = go (first_from_law.is blank test 0 xs)
+  where
+    go : FirstAt blank test 0 xs (first_from test 0 xs) ⊎ NoneFrom blank test 0 xs (first_from test 0 xs) → Placed test xs r
+    go (inl at) =
+        let w : place_of test xs ≡ Some (first_from test 0 xs) = simp (lt-ltb (first_from test 0 xs) (length xs) at.inside) in
+        subst (λ (o : Option ℕ). Placed test xs o) (sym (e ∙ w)) at
+    go (inr none) =
+        let l : length xs ≤ first_from test 0 xs = omega (arith, none.end) in
+        let w : place_of test xs ≡ None = simp (le-ltb (first_from test 0 xs) (length xs) l) in
+        subst (λ (o : Option ℕ). Placed test xs o) (sym (e ∙ w)) (record { end = refl; none = none.none })
 
-pub seek_on : {k : Key} {q₀ q : PendingQueue} {n i : ℕ} → Seeking k q₀ q n i → i < n → has_key k (get_or q.slots i blank) ≡ false
-    → Seeking k q₀ q n (i + 1)
-seek_on inv h g = record { same = inv.same; finding = find_next blank inv.finding h g; scanning = scan_next blank inv.scanning h g }
+pub placed_below : (test : PendingPacket → Bool) (s : Queue) (n : ℕ) {i : ℕ} → Some i ≡ place_of test (take n s) → i < n
+placed_below test s n {i} h = let at : FirstAt blank test 0 (take n s) i = placed test (take n s) (Some i) h in omega (arith, at.inside, length-take n s)
 
--- the loop that moves the later packets down begins at the key's packet
-pub seek_moving : {k : Key} {q₀ q : PendingQueue} {n i : ℕ} → Seeking k q₀ q n i → n ≡ min q₀.len 8 → i < n
-    → Moving 8 q.slots q.len i n q.slots i (i + 1)
-seek_moving inv e h =
-    moving 8 _ _ _ _ inv.finding.full (e ∙ ap (λ (x : PendingQueue). min x.len 8) (sym inv.same)) h
+module _ (test : PendingPacket → Bool) where
+  any_at : (xs : Queue) (i : ℕ) → i < length xs → test (get_or xs i blank) ≡ true → any_of test xs ≡ true
+  any_at [] i h p = absurd (omega arith)
+  any_at (x ∷ xs) zero h p = ap (λ (b : Bool). cond b true (any_of test xs)) p
+  any_at (x ∷ xs) (suc i) h p = go (test x) (any_at xs i (omega arith) p)
+    where
+      go : (b : Bool) → any_of test xs ≡ true → cond b true (any_of test xs) ≡ true
+      go true e = refl
+      go false e = e
+
+  any_none : (xs : Queue) → ((i : ℕ) → i < length xs → test (get_or xs i blank) ≡ false) → any_of test xs ≡ false
+  any_none [] all = refl
+  any_none (x ∷ xs) all =
+      ap (λ (b : Bool). cond b true (any_of test xs)) (all 0 (omega arith)) ∙ any_none xs (λ i l. all (suc i) (omega arith))
+
+without_count : (xs : Queue) (i : ℕ) → i < length xs → length (without xs i) ≡ length xs - 1
+without_count xs i h = omega (arith, length-append (take i xs) (drop (i + 1) xs), length-take i xs, length-drop (i + 1) xs)
 
 -- an answer by the first packet of the key, or where none is there
-gives_first : (k : Key) (ps : Queue) → released_out (first_of (has_key k) handed Nothing ps) ≡ first_of (has_key k) handle_alone [] ps
+gives_first : (k : Key) (ps : Queue) → released_out (first_of (has_key k) handed (Ok None) ps) ≡ first_of (has_key k) handle_alone [] ps
 gives_first k [] = refl
 gives_first k (p ∷ ps) = go (has_key k p) (gives_first k ps)
   where
-    go : (x : Bool) → released_out (first_of (has_key k) handed Nothing ps) ≡ first_of (has_key k) handle_alone [] ps
-        → released_out (cond x (handed p) (first_of (has_key k) handed Nothing ps)) ≡ cond x (handle_alone p) (first_of (has_key k) handle_alone [] ps)
+    go : (x : Bool) → released_out (first_of (has_key k) handed (Ok None) ps) ≡ first_of (has_key k) handle_alone [] ps
+        → released_out (cond x (handed p) (first_of (has_key k) handed (Ok None) ps)) ≡ cond x (handle_alone p) (first_of (has_key k) handle_alone [] ps)
     go true h = refl
     go false h = h
 
@@ -165,13 +185,13 @@ gives_none k (p ∷ ps) h = go (has_key k p) (gives_none k ps) h
     go true g h = absurd (true≢false h)
     go false g h = g h
 
-released_by : (x : Check) (q : PendingQueue) (k : Key) → released_out (release_by x q k).answer ≡ unless x (first_of (has_key k) handle_alone [] (packets q))
+released_by : (x : Result (Unit {0}) Refusal) (q : PendingQueue) (k : Key) → released_out (release_by x q k).answer ≡ unless x (first_of (has_key k) handle_alone [] (packets q))
 unfolding release_answer
-released_by (Fails why) q k = refl
-released_by Fine q k = go (any_of (has_key k) (packets q)) refl
+released_by (Err why) q k = refl
+released_by (Ok tt) q k = go (any_of (has_key k) (packets q)) refl
   where
     go : (b : Bool) → any_of (has_key k) (packets q) ≡ b
-        → released_out (cond {A = Released} b (record { queue = with_packets q (release_list k (packets q)); answer = release_answer k (packets q) }) (record { queue = q; answer = Nothing })).answer
+        → released_out (cond {A = Released} b (record { queue = with_packets q (release_list k (packets q)); answer = release_answer k (packets q) }) (record { queue = q; answer = Ok None })).answer
         ≡ first_of (has_key k) handle_alone [] (packets q)
     go true e = gives_first k (packets q)
     go false e = sym (gives_none k (packets q) e)
@@ -181,129 +201,183 @@ module _ (q : PendingQueue) (iface : ℕ) (addr : Ipv6Addr) where
   released_as r e n =
       record { is = e; number = n; gives = ap (λ (x : Released). released_out x.answer) e ∙ released_by (iface_check iface) q (key iface addr) }
 
-  pub release_refused : (why : Refusal) → iface_check iface ≡ Fails why → ReleasedTo q iface addr (record { queue = q; answer = Rejected why })
-  release_refused why e = released_as _ (ap (λ (x : Check). release_by x q (key iface addr)) (sym e)) (ap check_number (sym e))
+  module _ (n : ℕ) (full : length q.slots ≡ 8) (e : n ≡ min q.len 8) (fine : iface_check iface ≡ Ok tt) where
+    k : Key
+    k = key iface addr
 
-  module _ {q₀ : PendingQueue} {n i : ℕ} (inv : Seeking (key iface addr) q₀ q n i) (e : iface_check iface ≡ Fine) where
-    -- what holds of the queue holds of the one that came
-    came : {r : Released} → ReleasedTo q iface addr r → ReleasedTo q₀ iface addr r
-    came {r} d = subst (λ (x : PendingQueue). ReleasedTo x iface addr r) inv.same d
+    same : take n q.slots ≡ packets q
+    same = take_count q.slots q.len n (counted q.slots q.len 8 n full e)
 
-    pub release_none : n ≤ i → ReleasedTo q₀ iface addr (record { queue = q; answer = Nothing })
+    placed_in : (r : Option ℕ) → r ≡ place_of (has_key k) (take n q.slots) → Placed (has_key k) (packets q) r
+    placed_in r h = placed (has_key k) (packets q) r (h ∙ ap (λ (ps : Queue). place_of (has_key k) ps) same)
+
+    pub release_none : None ≡ place_of (has_key (key iface addr)) (take n q.slots) → ReleasedTo q iface addr (record { queue = q; answer = Ok None })
+    unfolding k
     release_none h =
-        let w : record { queue = q; answer = Nothing } ≡ release_by Fine q (key iface addr) = simp (absent_any blank inv.finding h) in
-        came (released_as _ (w ∙ ap (λ (x : Check). release_by x q (key iface addr)) (sym e)) (ap check_number (sym e)))
+        let at : NoneFrom blank (has_key k) 0 (packets q) (length (packets q)) = placed_in None h in
+        let none : any_of (has_key k) (packets q) ≡ false = any_none (has_key k) (packets q) (λ i l. at.none i (omega arith) l) in
+        let w : record { queue = q; answer = Ok None } ≡ release_by (Ok tt) q k = simp none in
+        released_as _ (w ∙ ap (λ (x : Result (Unit {0}) Refusal). release_by x q k) (sym fine)) (ap check_number (sym fine))
 
-    pub released : (t : Queue) (hole : ℕ) → i < n → has_key (key iface addr) (get_or q.slots i blank) ≡ true
-        → Made q.slots (without (packets q) i) t hole
-        → ReleasedTo q₀ iface addr (record { queue = record { slots = t; len = hole }; answer = Handle (get_or q.slots i blank).handle })
-    unfolding release_list release_answer
-    released t hole h g m =
-        let l : without (packets q) i ≡ release_list (key iface addr) (packets q) = found_goes blank inv.finding h g refl in
-        let a : Handle (get_or q.slots i blank).handle ≡ release_answer (key iface addr) (packets q) = scan_found blank inv.scanning h g in
-        let made : ◌≡◌ {A = Released} (record { queue = record { slots = t; len = hole }; answer = Handle (get_or q.slots i blank).handle })
-        (record { queue = with_packets q (release_list (key iface addr) (packets q)); answer = release_answer (key iface addr) (packets q) }) =
-        ap₂ (λ (x : PendingQueue) (y : Release). record { queue = x; answer = y })
-        (ap₂ (λ (x : Queue) (y : ℕ). record { slots = x; len = y }) (m.slots ∙ ap (λ (u : Queue). filled q.slots u) l) (m.count ∙ ap length l)) a in
-        let w : record { queue = with_packets q (release_list (key iface addr) (packets q)); answer = release_answer (key iface addr) (packets q) }
-        ≡ release_by Fine q (key iface addr) = simp (found_any blank inv.finding h g) in
-        came (released_as _ (made ∙ (w ∙ ap (λ (x : Check). release_by x q (key iface addr)) (sym e))) (ap check_number (sym e)))
+    pub released : (i : ℕ) → Some i ≡ place_of (has_key (key iface addr)) (take n q.slots)
+        → ReleasedTo q iface addr
+        (record { queue = record { slots = filled q.slots (without (take n q.slots) i); len = n - 1 }; answer = Ok (Some (get_or q.slots i blank).handle) })
+    unfolding k
+    released i h =
+        let at : FirstAt blank (has_key k) 0 (packets q) i = placed_in (Some i) h in
+        let some : any_of (has_key k) (packets q) ≡ true = any_at (has_key k) (packets q) i at.inside at.passes in
+        let l : without (take n q.slots) i ≡ release_list k (packets q) =
+        ap (λ (ps : Queue). without ps i) same ∙ sym (release_law.takes k (packets q) i at) in
+        let size : n ≡ length (packets q) = counted q.slots q.len 8 n full e in
+        let c : n - 1 ≡ length (release_list k (packets q)) =
+        ap (λ (m : ℕ). m - 1) size ∙ (sym (without_count (packets q) i at.inside) ∙ ap length (sym (release_law.takes k (packets q) i at))) in
+        let a : Ok (Some (get_or q.slots i blank).handle) ≡ release_answer k (packets q) =
+        ap (λ (p : PendingPacket). (Ok (Some p.handle))) (sym (entry_at blank q.slots q.len i at.inside)) ∙ sym (release_law.gives k (packets q) i at) in
+        let made : ◌≡◌ {A = Released}
+        (record { queue = record { slots = filled q.slots (without (take n q.slots) i); len = n - 1 }; answer = Ok (Some (get_or q.slots i blank).handle) })
+        (record { queue = with_packets q (release_list k (packets q)); answer = release_answer k (packets q) }) =
+        ap₂ (λ (x : PendingQueue) (y : Result (Option ℕ) Refusal). record { queue = x; answer = y })
+        (ap₂ (λ (x : Queue) (y : ℕ). record { slots = x; len = y }) (ap (λ (u : Queue). filled q.slots u) l) c) a in
+        let w : record { queue = with_packets q (release_list k (packets q)); answer = release_answer k (packets q) } ≡ release_by (Ok tt) q k = simp some in
+        released_as _ (made ∙ (w ∙ ap (λ (x : Result (Unit {0}) Refusal). release_by x q k) (sym fine))) (ap check_number (sym fine))
 
 -- Purges: the loop keeps what stays, and collects the handles of what goes
 
-pub record Purging (goes : PendingPacket → Bool) (s₀ : Queue) (n : ℕ) (s : Queue) (w i : ℕ) (b : List ℕ) (m : ℕ) : Type 0 where
-  pub few : m ≤ i
-  pub keeping : Compacting 8 goes s₀ n n s w i
-  pub out : Collecting (dropped_handles goes (take n s₀)) zeros b m (dropped_handles goes (drop i (take n s₀)))
+dropped_append : (goes : PendingPacket → Bool) (xs ys : Queue) → dropped goes (xs ++ ys) ≡ dropped goes xs ++ dropped goes ys
+dropped_append goes [] ys = refl
+dropped_append goes (x ∷ xs) ys = go (goes x) (dropped_append goes xs ys)
+  where
+    go : (b : Bool) → dropped goes (xs ++ ys) ≡ dropped goes xs ++ dropped goes ys
+        → cond b (x ∷ dropped goes (xs ++ ys)) (dropped goes (xs ++ ys)) ≡ cond b (x ∷ dropped goes xs) (dropped goes xs) ++ dropped goes ys
+    go true h = ap (λ (l : Queue). x ∷ l) h
+    go false h = h
 
-pub purging : (goes : PendingPacket → Bool) (s : Queue) (n : ℕ) → length s ≡ 8 → n ≤ 8 → Purging goes s n s 0 0 zeros 0
-purging goes s n full most =
-    record { few = omega arith; keeping = compacting 8 goes s n n full (omega arith); out = record { so_far = refl; rest = refl; long = refl } }
+-- of the first i packets of `q`, those that stay stand in front of `s`, and the handles of the others in `h`
+pub record Parted (goes : PendingPacket → Bool) (q : Queue) (i : ℕ) (s : Queue) (k : ℕ) (h : Handles) : Type 0 where
+  pub stay : Made q (kept goes (take i q)) s k
+  pub go : Made zeros (dropped_handles goes (take i q)) h.slots h.len
 
-module _ {goes : PendingPacket → Bool} {s₀ : Queue} {n : ℕ} {s : Queue} {w i : ℕ} {b : List ℕ} {m : ℕ} (inv : Purging goes s₀ n s w i b m) where
-  module _ (h : i < n) where
-    here : drop i (take n s₀) ≡ get_or s i blank ∷ drop (i + 1) (take n s₀)
-    here = next blank goes s₀ n s w i inv.keeping.keeping (omega (arith, inv.keeping.count))
+-- the same by each test that the closure's answers are those of
+pub record Purging (gives : PendingPacket → Bool → Type 0) (q : Queue) (i : ℕ) (s : Queue) (k : ℕ) (h : Handles) : Type 0 where
+  pub wide : length s ≡ 8
+  pub room : length h.slots ≡ 8
+  pub parts : k + h.len ≡ i
+  pub by : (goes : PendingPacket → Bool) → ((x : PendingPacket) (b : Bool) → gives x b → b ≡ not (goes x)) → Parted goes q i s k h
 
-    pub one_goes : goes (get_or s i blank) ≡ true → Purging goes s₀ n s w (i + 1) (set b m (get_or s i blank).handle) (m + 1)
-    unfolding dropped_handles
-    one_goes g =
-        let t : dropped_handles goes (drop i (take n s₀)) ≡ (get_or s i blank).handle ∷ dropped_handles goes (drop (i + 1) (take n s₀)) = simp (here, g) in
-        record {
-          few = omega (arith, inv.few);
-          keeping = one_gone blank inv.keeping h g;
-          out = collect _ _ _ _ _ inv.out (get_or s i blank).handle _ t (omega (arith, inv.few, inv.keeping.most));
-        }
+not_not : (b c : Bool) → c ≡ not b → b ≡ not c
+not_not true c e = sym (ap not e)
+not_not false c e = sym (ap not e)
 
-    pub one_stays : goes (get_or s i blank) ≡ false → Purging goes s₀ n (set s w (get_or s i blank)) (w + 1) (i + 1) b m
+module _ {gives : PendingPacket → Bool → Type 0} {q : Queue} where
+  pub purging : (len : length q ≡ 8) → Purging gives q 0 q 0 (record { slots = zeros; len = 0 })
+  unfolding dropped_handles
+  purging len =
+      record {
+        wide = len;
+        room = refl;
+        parts = refl;
+        by = λ goes means. record { stay = record { slots = refl; count = refl }; go = record { slots = refl; count = refl } };
+      }
+
+  module _ {n i : ℕ} {s : Queue} {k : ℕ} {h : Handles} (full : length q ≡ 8) (most : n ≤ 8) (inv : Purging gives q i s k h) (l : i < n) where
+    abbrev x : PendingPacket
+    x = get_or (take n q) i blank
+
+    next_one : take (i + 1) q ≡ take i q ++ (x ∷ [])
+    next_one = rw (add-one i) (take-suc q i blank (omega arith) ∙ ap (λ (y : PendingPacket). take i q ++ (y ∷ [])) (sym (get_or-take n q i blank l)))
+
+    pub one_stays : gives x true → Purging gives q (i + 1) (set s k x) (k + 1) h
     unfolding dropped_handles
     one_stays g =
-        let t : dropped_handles goes (drop i (take n s₀)) ≡ dropped_handles goes (drop (i + 1) (take n s₀)) = simp (here, g) in
         record {
-          few = omega (arith, inv.few);
-          keeping = one_kept blank inv.keeping h g;
-          out = nothing _ _ _ _ _ inv.out _ t;
+          wide = length-set s k x ∙ inv.wide;
+          room = inv.room;
+          parts = omega (arith, inv.parts);
+          by =
+              λ goes means.
+              let p : Parted goes q i s k h = inv.by goes means in
+              let e : goes x ≡ false = not_not _ _ (means _ _ g) in
+              let stay : kept goes (take i q) ++ (x ∷ []) ≡ kept goes (take (i + 1) q) = simp (next_one, kept_append, e) in
+              let go : dropped_handles goes (take i q) ≡ dropped_handles goes (take (i + 1) q) = simp (next_one, dropped_append, e, append-nil) in
+              record {
+                stay = subst (λ (xs : Queue). Made q xs (set s k x) (k + 1)) stay (appended _ p.stay (omega (arith, inv.parts, inv.wide)));
+                go = subst (λ (xs : List ℕ). Made zeros xs h.slots h.len) go p.go;
+              };
         }
 
-module _ (q : PendingQueue) {n : ℕ} (full : length q.slots ≡ 8) (e : n ≡ min q.len 8) where
-  purged : (goes : PendingPacket → Bool) {s : Queue} {w i : ℕ} {b : List ℕ} {m : ℕ} → Purging goes q.slots n s w i b m → n ≤ i
-      → ◌≡◌ {A = Purged} (record { queue = record { slots = s; len = w }; handles = record { slots = b; len = m }; outcome = Done }) (purged_of q goes)
-  unfolding purged_of dropped_handles
-  purged goes {s} {w} {i} {b} {m} inv h =
-      let k : Made q.slots (kept goes (take n q.slots)) s w = compacted blank inv.keeping h in
-      let l : length (take n q.slots) ≤ i = omega (arith, inv.keeping.count) in
-      let none : dropped_handles goes (drop i (take n q.slots)) ≡ [] = simp (drop_of_length-le (take n q.slots) l) in
-      let same : take n q.slots ≡ packets q = take_count q.slots q.len n (counted q.slots q.len 8 n full e) in
-      let o = collected _ _ _ _ _ inv.out none (omega (arith, inv.few, inv.keeping.low, inv.keeping.most)) in
-      ap₂ (λ (x : PendingQueue) (y : Handles). record { queue = x; handles = y; outcome = Done })
-      (ap₂ (λ (x : Queue) (y : ℕ). record { slots = x; len = y }) k.slots k.count)
-      (ap₂ (λ (x : List ℕ) (y : ℕ). record { slots = x; len = y }) o.0 o.1)
-      ∙ ap (λ (ps : Queue). record { queue = with_packets q (kept goes ps); handles = handles_of (dropped_handles goes ps); outcome = Done }) same
+    pub one_goes : gives x false → Purging gives q (i + 1) s k (record { slots = set h.slots h.len x.handle; len = h.len + 1 })
+    unfolding dropped_handles
+    one_goes g =
+        record {
+          wide = inv.wide;
+          room = length-set h.slots h.len x.handle ∙ inv.room;
+          parts = omega (arith, inv.parts);
+          by =
+              λ goes means.
+              let p : Parted goes q i s k h = inv.by goes means in
+              let e : goes x ≡ true = not_not _ _ (means _ _ g) in
+              let stay : kept goes (take i q) ≡ kept goes (take (i + 1) q) = simp (next_one, kept_append, e, append-nil) in
+              let go : dropped_handles goes (take i q) ++ (x.handle ∷ []) ≡ dropped_handles goes (take (i + 1) q) =
+              simp (next_one, dropped_append, e, map-append) in
+              record {
+                stay = subst (λ (xs : Queue). Made q xs s k) stay p.stay;
+                go =
+                    subst (λ (xs : List ℕ). Made zeros xs (set h.slots h.len x.handle) (h.len + 1)) go
+                    (appended _ p.go (omega (arith, inv.parts, inv.room)));
+              };
+        }
 
-  pub purged_orphans : (c : NeighborCache) {s : Queue} {w i : ℕ} {b : List ℕ} {m : ℕ} → Purging (orphaned (entries c)) q.slots n s w i b m → n ≤ i
-      → OrphansPurged q c (record { queue = record { slots = s; len = w }; handles = record { slots = b; len = m }; outcome = Done })
-  purged_orphans c inv h = record { is = purged (orphaned (entries c)) inv h; number = refl }
+pub purged : {gives : PendingPacket → Bool → Type 0} (q : PendingQueue) {n : ℕ} {s : Queue} {k : ℕ} {h : Handles} → length q.slots ≡ 8
+    → n ≡ min q.len 8 → Purging gives q.slots n s k h
+    → PurgesBy gives q (record { queue = record { slots = s; len = k }; handles = h; outcome = Ok tt })
+unfolding purged_of
+purged q {n} {s} {k} {h} full e inv =
+    λ goes means.
+    let p = inv.by goes means in
+    let same : take n q.slots ≡ packets q = take_count q.slots q.len n (counted q.slots q.len 8 n full e) in
+    ap₂ (λ (x : PendingQueue) (y : Handles). record { queue = x; handles = y; outcome = Ok tt })
+    (ap₂ (λ (x : Queue) (y : ℕ). record { slots = x; len = y }) p.stay.slots p.stay.count)
+    (ap₂ (λ (x : List ℕ) (y : ℕ). record { slots = x; len = y }) p.go.slots p.go.count)
+    ∙ ap (λ (ps : Queue). record { queue = with_packets q (kept goes ps); handles = handles_of (dropped_handles goes ps); outcome = Ok tt }) same
 
-  pub purged_iface : (iface : ℕ) {s : Queue} {w i : ℕ} {b : List ℕ} {m : ℕ} → iface_check iface ≡ Fine → Purging (on_iface iface) q.slots n s w i b m
-      → n ≤ i → PurgedTo q iface (record { queue = record { slots = s; len = w }; handles = record { slots = b; len = m }; outcome = Done })
-  unfolding purged_of
-  purged_iface iface fine inv h =
-      record { is = purged (on_iface iface) inv h ∙ ap (λ (x : Check). purge_by x q (on_iface iface)) (sym fine); number = ap check_number (sym fine) }
+-- what a purge by a test leaves and hands back
+pub purged_orphans : (q : PendingQueue) (c : NeighborCache) (r : Purged) → r ≡ purged_of q (orphaned (entries c)) → OrphansPurged q c r
+unfolding purged_of
+purged_orphans q c r e = record { is = e; number = ap (λ (x : Purged). outcome_number x.outcome) e }
 
-pub purge_refused : (q : PendingQueue) (iface : ℕ) (why : Refusal) → iface_check iface ≡ Fails why
-    → PurgedTo q iface (record { queue = q; handles = record { slots = zeros; len = 0 }; outcome = Refused why })
-purge_refused q iface why e = record { is = ap (λ (x : Check). purge_by x q (on_iface iface)) (sym e); number = ap check_number (sym e) }
+pub purged_iface : (q : PendingQueue) (iface : ℕ) (r : Purged) → iface_check iface ≡ Ok tt → r ≡ purged_of q (on_iface iface) → PurgedTo q iface r
+unfolding purged_of
+purged_iface q iface r fine e =
+    record {
+      is = e ∙ ap (λ (x : Result (Unit {0}) Refusal). purge_by x q (on_iface iface)) (sym fine);
+      number = ap (λ (x : Purged). outcome_number x.outcome) e ∙ ap check_number (sym fine);
+    }
 
--- what was found in the cache tells whether the packet is an orphan
-module _ (t : Table) (p : PendingPacket) (a : Bool) (e : a ≡ first_of (is_key (key_of p)) awaits_in false t) where
-  pub stays_awaited : a ≡ true → orphaned t p ≡ false
-  unfolding orphaned
-  stays_awaited h = ap not (sym e ∙ h)
+-- Orphans
 
-  pub goes_orphaned : a ≡ false → orphaned t p ≡ true
-  unfolding orphaned
-  goes_orphaned h = ap not (sym e ∙ h)
+abbrev awaits_found : Option Entry → Bool
+awaits_found None = false
+awaits_found (Some e) = awaits_in e
 
--- Listing
+module _ (k : Key) where
+  awaits_first : (t : Table) → awaits_found (find (is_key k) t) ≡ first_of (is_key k) awaits_in false t
+  awaits_first [] = refl
+  awaits_first (e ∷ t) = go (is_key k e) (awaits_first t)
+    where
+      go : (b : Bool) → awaits_found (find (is_key k) t) ≡ first_of (is_key k) awaits_in false t
+          → awaits_found (cond b (Some e) (find (is_key k) t)) ≡ cond b (awaits_in e) (first_of (is_key k) awaits_in false t)
+      go true h = refl
+      go false h = h
 
-module _ (q : PendingQueue) (n i : ℕ) (full : length q.slots ≡ 8) (e : n ≡ min q.len 8) where
-  packet_count : n ≡ length (packets q)
-  packet_count = counted q.slots q.len 8 n full e
+  pub awaited_first : (t : Table) (o : Option (Bor Entry)) (r : Bool) → option_map (λ (e : Bor Entry). e.now) o ≡ find (is_key k) t
+      → MatchOption o (r ≡ false) (λ e. r ≡ awaits_in e.now) → r ≡ first_of (is_key k) awaits_in false t
+  awaited_first t None r e m = m ∙ (ap awaits_found e ∙ awaits_first t)
+  awaited_first t (Some x) r e m = m ∙ (ap awaits_found e ∙ awaits_first t)
 
-  pub at_packet : i < n → WaitingAt q i (Is (get_or q.slots i blank))
-  at_packet h =
-      let l : i < length (packets q) = omega (arith, packet_count) in
-      record {
-        is = ap Is (sym (entry_at blank q.slots q.len i l)) ∙ simp (lt-ltb i (length (packets q)) l);
-        number = refl;
-        shows = sym (ap (λ (ps : Queue). take 1 ps) (entries_from blank q.slots q.len i l));
-      }
-
-  pub at_none : n ≤ i → WaitingAt q i NoPacket
-  at_none h =
-      let l : length (packets q) ≤ i = omega (arith, packet_count) in
-      record {
-        is = simp (le-ltb i (length (packets q)) l);
-        number = refl;
-        shows = sym (ap (λ (ps : Queue). take 1 ps) (drop_of_length-le (packets q) l));
-      }
+-- a packet stays where it is awaited among the entries
+pub awaited_stays : (c : NeighborCache) (n : ℕ) → length c.slots ≡ 16 → n ≡ min c.len 16 → (p : PendingPacket) (b : Bool)
+    → b ≡ first_of (is_key (key_of p)) awaits_in false (take n c.slots) → b ≡ not (orphaned (entries c) p)
+unfolding orphaned
+awaited_stays c n full e p b h =
+    let same : take n c.slots ≡ entries c = take_count c.slots c.len n (counted c.slots c.len 16 n full e) in
+    h ∙ (ap (λ (t : Table). first_of (is_key (key_of p)) awaits_in false t) same ∙ not_not _ _ refl)

@@ -7,13 +7,12 @@ use mathlib.Core.Bool.{Bool, true, false, cond, not}
 use mathlib.Core.List.{List, [], ◌∷◌, ◌++◌, map}
 use mathlib.Core.Path.{◌≡◌, refl}
 use native.Mathlib.Omega.{arith}
+use Rattle.std.specs.Prelude.{Some, None, Ok}
 use Rattle.neighbor.specs.NeighborRules.{Key}
 use Rattle.pending.specs.QueueCalls.{pushed_out, released_out}
 use Rattle.pending.specs.QueueCount.{count_of, waiting, Accounted}
 use Rattle.pending.specs.QueueRules.{Queue, handle_of, has_key, push_list, oldest, push_answer, gone, release_list, handed, release_answer, dropped_handles}
 use Rattle.pending.specs.declared.PendingPacket.{PendingPacket}
-use Rattle.pending.specs.declared.Push.TheVariants.{Queued, Dropped}
-use Rattle.pending.specs.declared.Release.TheVariants.{Nothing}
 use Rattle.table.specs.Table.{at_first_is, first_of, kept, dropped}
 
 -- a handle in front
@@ -46,7 +45,7 @@ push_count room h p q some = go q (ltb (length q) room) refl
   where
     go : (q : Queue) (b : Bool) → ltb (length q) room ≡ b
         → waiting h q + count_of h (handle_of p ∷ [])
-        ≡ waiting h (cond (not b) (drop 1 q) q ++ (p ∷ [])) + count_of h (pushed_out (cond (not b) (Dropped (oldest q)) Queued))
+        ≡ waiting h (cond (not b) (drop 1 q) q ++ (p ∷ [])) + count_of h (pushed_out (cond (not b) (Ok (Some (oldest q))) (Ok None)))
     go q true e = omega (arith, waiting_end h p q)
     go [] false e = absurd (omega (arith, ltb-false 0 room e))
     go (x ∷ q) false e = omega (arith, waiting_cons h x q, waiting_end h p q)
@@ -67,10 +66,10 @@ release_count h k (x ∷ q) = go (has_key k x) (release_count h k q)
   where
     go : (b : Bool)
         → count_of h (map handle_of q)
-        ≡ count_of h (map handle_of (at_first_is (has_key k) gone [] q)) + count_of h (released_out (first_of (has_key k) handed Nothing q))
+        ≡ count_of h (map handle_of (at_first_is (has_key k) gone [] q)) + count_of h (released_out (first_of (has_key k) handed (Ok None) q))
         → count_of h (map handle_of (x ∷ q))
         ≡ count_of h (map handle_of (cond b (gone x ++ q) (x ∷ at_first_is (has_key k) gone [] q)))
-        + count_of h (released_out (cond b (handed x) (first_of (has_key k) handed Nothing q)))
+        + count_of h (released_out (cond b (handed x) (first_of (has_key k) handed (Ok None) q)))
     go true e = omega (arith, count_cons h (handle_of x) (map handle_of q))
     go false e =
         omega (

@@ -6,6 +6,7 @@ use mathlib.Core.List.{[], ◌∷◌, ◌++◌}
 use mathlib.Core.Path.{◌≡◌, refl, ap, ◌∙◌}
 use native.Mathlib.Numerals.{add-one}
 use native.Mathlib.Omega.{arith}
+use Rattle.std.specs.Prelude.{None, Ok}
 use Rattle.neighbor.proofs.Scans.{first_of_lem, none_of}
 use Rattle.neighbor.specs.CacheCalls.{blank as blankEntry}
 use Rattle.neighbor.specs.NeighborRules.{Key, is_key}
@@ -14,7 +15,6 @@ use Rattle.neighbor.specs.declared.State.{State}
 use Rattle.pending.specs.QueueCalls.{blank}
 use Rattle.pending.specs.QueueRules.{Queue, key_of, has_key, gone, release_list, handed, release_answer, awaits, awaits_in, orphaned}
 use Rattle.pending.specs.QueueScans.{ReleaseLaw, OrphanLaw}
-use Rattle.pending.specs.declared.Release.TheVariants.{Nothing}
 use Rattle.table.specs.First.{FirstAt}
 use Rattle.table.specs.Table.{at_first_is, without}
 use Rattle.wire.specs.declared.ethernet.HardwareAddress.{HardwareAddress}
@@ -41,9 +41,9 @@ pub release_law : ReleaseLaw
 unfolding release_list release_answer
 release_law =
     record {
-      gives = λ k q j at. first_of_lem blank (has_key k) handed Nothing q j at;
+      gives = λ k q j at. first_of_lem blank (has_key k) handed (Ok None) q j at;
       takes = λ k q j at. taken k q j at;
-      gives_none = λ k q j at. none_of blank (has_key k) handed Nothing q j at;
+      gives_none = λ k q j at. none_of blank (has_key k) handed (Ok None) q j at;
       takes_none = λ k q j at. all_stay k q (λ i l. at.none i (omega arith) l);
     }
 

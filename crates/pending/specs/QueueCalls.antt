@@ -1,26 +1,19 @@
 -- The calls of the queue: what each answers and leaves. Slots past the packets keep what they held. Assumes nothing.
-use Rattle.std.specs.Prelude.{ℕ, ◌≡◌, Bool, cond, List, [], ◌∷◌, take, drop, length, get_or, replicate, ltb}
+use Rattle.wire.specs.declared.error.Refusal.{Refusal}
+use Rattle.std.specs.Prelude.{ℕ, ◌≡◌, Bool, cond, not, List, [], ◌∷◌, take, drop, length, get_or, replicate, ltb, Result, Ok, Err, Option, Some, None}
+use Rattle.table.specs.Calls.{Decides}
 use Rattle.table.specs.Table.{filled, any_of, first_of, kept}
 use Rattle.wire.specs.declared.ipv6.Ipv6Addr.{Ipv6Addr}
-use Rattle.wire.specs.declared.error.Check.{Check}
-use Rattle.wire.specs.declared.error.Check.TheVariants.{Fine, Refused as Fails}
 use Rattle.wire.specs.Refusals.{number_of, check_number, outcome_number, iface_check}
-use Rattle.wire.specs.declared.error.Outcome.TheVariants.{Refused, Done}
 use Rattle.neighbor.specs.declared.NeighborCache.{NeighborCache}
 use Rattle.neighbor.specs.CacheCalls.{key, entries, unless}
 use Rattle.neighbor.specs.NeighborRules.{Key}
 use Rattle.pending.specs.declared.PendingPacket.{PendingPacket}
 use Rattle.pending.specs.declared.PendingQueue.{PendingQueue}
 use Rattle.pending.specs.declared.Handles.{Handles}
-use Rattle.pending.specs.declared.Push.{Push}
-use Rattle.pending.specs.declared.Push.TheVariants.{Refused as Denied, Queued, Dropped}
 use Rattle.pending.specs.declared.Pushed.{Pushed}
-use Rattle.pending.specs.declared.Release.{Release}
-use Rattle.pending.specs.declared.Release.TheVariants.{Refused as Rejected, Nothing, Handle}
 use Rattle.pending.specs.declared.Released.{Released}
 use Rattle.pending.specs.declared.Purged.{Purged}
-use Rattle.pending.specs.declared.Waiting.{Waiting}
-use Rattle.pending.specs.declared.Waiting.TheVariants.{Nothing as NoPacket, Is}
 use Rattle.pending.specs.QueueRules.{Queue, handle_of, packet, has_key, is_full, oldest, push_list, push_answer, release_list, release_answer, orphaned, on_iface, dropped_handles}
 
 -- "waiting packets 8"
@@ -51,40 +44,40 @@ handles_of hs = record { slots = filled zeros hs; len = length hs }
 
 -- document 01's number of an answer, 0 for none, and the handle that it gives back
 
-abbrev pub push_number : Push → ℕ
-push_number (Denied why) = number_of why
-push_number Queued = 0
-push_number (Dropped h) = 0
+abbrev pub push_number : Result (Option ℕ) Refusal → ℕ
+push_number (Err why) = number_of why
+push_number (Ok None) = 0
+push_number (Ok (Some h)) = 0
 
-abbrev pub pushed_out : Push → List ℕ
-pushed_out (Denied why) = []
-pushed_out Queued = []
-pushed_out (Dropped h) = h ∷ []
+abbrev pub pushed_out : Result (Option ℕ) Refusal → List ℕ
+pushed_out (Err why) = []
+pushed_out (Ok None) = []
+pushed_out (Ok (Some h)) = h ∷ []
 
-abbrev pub release_number : Release → ℕ
-release_number (Rejected why) = number_of why
-release_number Nothing = 0
-release_number (Handle h) = 0
+abbrev pub release_number : Result (Option ℕ) Refusal → ℕ
+release_number (Err why) = number_of why
+release_number (Ok None) = 0
+release_number (Ok (Some h)) = 0
 
-abbrev pub released_out : Release → List ℕ
-released_out (Rejected why) = []
-released_out Nothing = []
-released_out (Handle h) = h ∷ []
+abbrev pub released_out : Result (Option ℕ) Refusal → List ℕ
+released_out (Err why) = []
+released_out (Ok None) = []
+released_out (Ok (Some h)) = h ∷ []
 
 -- a listing refuses nothing, and shows a packet
-abbrev pub waiting_number : Waiting → ℕ
-waiting_number NoPacket = 0
-waiting_number (Is p) = 0
+abbrev pub waiting_number : Option PendingPacket → ℕ
+waiting_number None = 0
+waiting_number (Some p) = 0
 
-abbrev pub waiting_shown : Waiting → Queue
-waiting_shown NoPacket = []
-waiting_shown (Is p) = p ∷ []
+abbrev pub waiting_shown : Option PendingPacket → Queue
+waiting_shown None = []
+waiting_shown (Some p) = p ∷ []
 
 -- Push
 
-abbrev pub push_by : Check → PendingQueue → PendingPacket → Pushed
-push_by (Fails why) q p = record { queue = q; answer = Denied why }
-push_by Fine q p = record { queue = with_packets q (push_list queue_room p (packets q)); answer = push_answer queue_room (packets q) }
+abbrev pub push_by : Result (Unit {0}) Refusal → PendingQueue → PendingPacket → Pushed
+push_by (Err why) q p = record { queue = q; answer = Err why }
+push_by (Ok tt) q p = record { queue = with_packets q (push_list queue_room p (packets q)); answer = push_answer queue_room (packets q) }
 
 pub record PushedTo (q : PendingQueue) (iface : ℕ) (addr : Ipv6Addr) (handle : ℕ) (r : Pushed) : Type 0 where
   pub is : r ≡ push_by (iface_check iface) q (packet (key iface addr) handle)
@@ -97,11 +90,11 @@ pub record PushedTo (q : PendingQueue) (iface : ℕ) (addr : Ipv6Addr) (handle :
 abbrev pub handle_alone : PendingPacket → List ℕ
 handle_alone p = handle_of p ∷ []
 
-abbrev pub release_by : Check → PendingQueue → Key → Released
-release_by (Fails why) q k = record { queue = q; answer = Rejected why }
-release_by Fine q k =
+abbrev pub release_by : Result (Unit {0}) Refusal → PendingQueue → Key → Released
+release_by (Err why) q k = record { queue = q; answer = Err why }
+release_by (Ok tt) q k =
     cond (any_of (has_key k) (packets q)) (record { queue = with_packets q (release_list k (packets q)); answer = release_answer k (packets q) })
-    (record { queue = q; answer = Nothing })
+    (record { queue = q; answer = Ok None })
 
 pub record ReleasedTo (q : PendingQueue) (iface : ℕ) (addr : Ipv6Addr) (r : Released) : Type 0 where
   pub is : r ≡ release_by (iface_check iface) q (key iface addr)
@@ -112,26 +105,30 @@ pub record ReleasedTo (q : PendingQueue) (iface : ℕ) (addr : Ipv6Addr) (r : Re
 
 unfoldable pub purged_of : PendingQueue → (PendingPacket → Bool) → Purged
 purged_of q goes =
-    record { queue = with_packets q (kept goes (packets q)); handles = handles_of (dropped_handles goes (packets q)); outcome = Done }
+    record { queue = with_packets q (kept goes (packets q)); handles = handles_of (dropped_handles goes (packets q)); outcome = Ok tt }
+
+-- a purge by a test that tells of a packet whether it stays
+abbrev pub PurgesBy : (PendingPacket → Bool → Type 0) → PendingQueue → Purged → Type 0
+PurgesBy gives q r = (goes : PendingPacket → Bool) → Decides gives (λ x. not (goes x)) → r ≡ purged_of q goes
 
 -- a purge of orphans refuses nothing
 pub record OrphansPurged (q : PendingQueue) (c : NeighborCache) (r : Purged) : Type 0 where
   pub is : r ≡ purged_of q (orphaned (entries c))
   pub number : outcome_number r.outcome ≡ 0
 
-abbrev pub purge_by : Check → PendingQueue → (PendingPacket → Bool) → Purged
-purge_by (Fails why) q goes = record { queue = q; handles = handles_of []; outcome = Refused why }
-purge_by Fine q goes = purged_of q goes
+abbrev pub purge_by : Result (Unit {0}) Refusal → PendingQueue → (PendingPacket → Bool) → Purged
+purge_by (Err why) q goes = record { queue = q; handles = handles_of []; outcome = Err why }
+purge_by (Ok tt) q goes = purged_of q goes
 
 pub record PurgedTo (q : PendingQueue) (iface : ℕ) (r : Purged) : Type 0 where
   pub is : r ≡ purge_by (iface_check iface) q (on_iface iface)
   pub number : outcome_number r.outcome ≡ check_number (iface_check iface)
 
 -- the packet at an index, for a listing
-abbrev pub at_index : PendingQueue → ℕ → Waiting
-at_index q i = cond (ltb i (length (packets q))) (Is (get_or (packets q) i blank)) NoPacket
+abbrev pub at_index : PendingQueue → ℕ → Option PendingPacket
+at_index q i = cond (ltb i (length (packets q))) (Some (get_or (packets q) i blank)) None
 
-pub record WaitingAt (q : PendingQueue) (i : ℕ) (r : Waiting) : Type 0 where
+pub record WaitingAt (q : PendingQueue) (i : ℕ) (r : Option PendingPacket) : Type 0 where
   pub is : r ≡ at_index q i
   pub number : waiting_number r ≡ 0
   pub shows : waiting_shown r ≡ take 1 (drop i (packets q))

@@ -1,15 +1,12 @@
 -- Document 01, "Waiting packets": its rules on the queue, a list whose head is the oldest packet. Assumes nothing.
-use Rattle.std.specs.Prelude.{ℕ, Bool, true, false, cond, not, List, [], ◌∷◌, ◌++◌, map, length, drop, ltb, eqb}
+use Rattle.wire.specs.declared.error.Refusal.{Refusal}
+use Rattle.std.specs.Prelude.{ℕ, Bool, true, false, cond, not, List, [], ◌∷◌, ◌++◌, map, length, drop, ltb, eqb, Option, Some, None, Result, Ok}
 use Rattle.table.specs.Table.{at_first_is, first_of, dropped}
 use Rattle.neighbor.specs.declared.State.{State}
 use Rattle.neighbor.specs.declared.State.TheVariants.{Started, Incomplete, Reachable, Stale}
 use Rattle.neighbor.specs.declared.Entry.{Entry}
 use Rattle.neighbor.specs.NeighborRules.{Table, Key, same_key, is_key}
 use Rattle.pending.specs.declared.PendingPacket.{PendingPacket}
-use Rattle.pending.specs.declared.Push.{Push}
-use Rattle.pending.specs.declared.Push.TheVariants.{Queued, Dropped}
-use Rattle.pending.specs.declared.Release.{Release}
-use Rattle.pending.specs.declared.Release.TheVariants.{Nothing, Handle}
 
 abbrev pub Queue : Type 0
 Queue = List PendingPacket
@@ -39,8 +36,8 @@ abbrev pub oldest : Queue → ℕ
 oldest [] = 0
 oldest (p ∷ q) = handle_of p
 
-unfoldable pub push_answer : ℕ → Queue → Push
-push_answer room q = cond (is_full room q) (Dropped (oldest q)) Queued
+unfoldable pub push_answer : ℕ → Queue → Result (Option ℕ) Refusal
+push_answer room q = cond (is_full room q) (Ok (Some (oldest q))) (Ok None)
 
 -- "Release takes the oldest of its key."
 abbrev pub gone : PendingPacket → Queue
@@ -49,11 +46,11 @@ gone p = []
 unfoldable pub release_list : Key → Queue → Queue
 release_list k q = at_first_is (has_key k) gone [] q
 
-abbrev pub handed : PendingPacket → Release
-handed p = Handle (handle_of p)
+abbrev pub handed : PendingPacket → Result (Option ℕ) Refusal
+handed p = Ok (Some (handle_of p))
 
-unfoldable pub release_answer : Key → Queue → Release
-release_answer k q = first_of (has_key k) handed Nothing q
+unfoldable pub release_answer : Key → Queue → Result (Option ℕ) Refusal
+release_answer k q = first_of (has_key k) handed (Ok None) q
 
 -- "Purging orphans drops packets whose entry is absent or Stale"
 abbrev pub awaits : State → Bool

@@ -1,14 +1,17 @@
 // The packets that wait for a neighbour's resolution: 32-bit handles under the keys of the neighbour cache, oldest first.
 #![tactic(auto)]
 
-ghost use Rattle.std.specs.Prelude.{◌≡◌};
+ghost use Rattle.std.specs.Prelude.{◌≡◌, [], ◌∷◌, false};
+ghost use Rattle.std.specs.Fn.{FnReturnsAt};
+ghost use Rattle.table.specs.Table.{first_of};
 ghost use Rattle.neighbor.specs.CacheCalls.{key};
-ghost use Rattle.pending.specs.QueueRules.{has_key, awaits};
-ghost use Rattle.pending.specs.QueueCalls.{empty, PushedTo, ReleasedTo, OrphansPurged, PurgedTo, WaitingAt};
+ghost use Rattle.neighbor.specs.NeighborRules.{is_key};
+ghost use Rattle.pending.specs.QueueRules.{key_of, has_key, awaits, awaits_in};
+ghost use Rattle.pending.specs.QueueCalls.{empty, handles_of, PushedTo, ReleasedTo, OrphansPurged, PurgesBy, PurgedTo, WaitingAt};
 
-use neighbor::{NEIGHBOR_CACHE_COUNT, NeighborCache, State};
+use neighbor::{Entry, NEIGHBOR_CACHE_COUNT, NeighborCache, State};
 use table::count_of;
-use wire::error::{Check, Outcome, Refusal, check_iface};
+use wire::error::{Refusal, check_iface};
 use wire::ipv6::Ipv6Addr;
 
 // How many packets the queue holds, over all interfaces.
@@ -22,7 +25,7 @@ pub struct PendingPacket {
     pub handle: u32,
 }
 
-// The oldest packet stands first.
+// The oldest packet stands first. Fixed memory: an array, and a count, which may be above its size (document 01).
 #[derive(Clone, Copy)]
 pub struct PendingQueue {
     pub slots: [PendingPacket; PENDING_QUEUE_COUNT],
@@ -36,33 +39,19 @@ pub struct Handles {
     pub len: usize,
 }
 
-// What became of a push.
-#[derive(Clone, Copy)]
-pub enum Push {
-    Refused(Refusal),
-    Queued,
-    // The queue was full: its oldest packet was dropped to make room.
-    Dropped(u32),
-}
-
+// What a push leaves. States go by value (document 01), so its answer stands beside.
 #[derive(Clone, Copy)]
 pub struct Pushed {
     pub queue: PendingQueue,
-    pub answer: Push,
-}
-
-// A packet that was taken out to be sent.
-#[derive(Clone, Copy)]
-pub enum Release {
-    Refused(Refusal),
-    Nothing,
-    Handle(u32),
+    // The handle of the oldest packet, if that was dropped to make room.
+    pub answer: Result<Option<u32>, Refusal>,
 }
 
 #[derive(Clone, Copy)]
 pub struct Released {
     pub queue: PendingQueue,
-    pub answer: Release,
+    // The packet that was taken out to be sent, if one waited.
+    pub answer: Result<Option<u32>, Refusal>,
 }
 
 // What a purge leaves and what it dropped. A purge that is carried out puts the queue in as slots and count: whole, in front of the
@@ -71,43 +60,52 @@ pub struct Released {
 pub struct Purged {
     pub queue: PendingQueue,
     pub handles: Handles,
-    pub outcome: Outcome,
-}
-
-// A packet of a listing.
-#[derive(Clone, Copy)]
-pub enum Waiting {
-    Nothing,
-    Is(PendingPacket),
+    pub outcome: Result<(), Refusal>,
 }
 
 // Whether packets go on waiting for an entry in this state.
 fn is_awaited(state: State) -> bool
     ensures { result ≡ awaits state }
 {
-    match state {
-        State::Started => true,
-        State::Incomplete {
-            probes_sent: _,
-            retrans_at: _,
-        } => true,
-        State::Reachable {
-            hardware_addr: _,
-            expires_at: _,
-        } => true,
-        State::Stale { hardware_addr: _ } => false,
-    }
+    !matches!(state, State::Stale { .. })
 }
 
 impl PendingPacket {
     #[tactic(auto, unfolding(neighbor::specs::NeighborRules::same_key))]
-    fn has_key(self, iface: u8, addr: Ipv6Addr) -> bool
-        ensures { result ≡ has_key (key iface addr) self }
+    fn has_key(&self, iface: u8, addr: Ipv6Addr) -> bool
+        ensures { result ≡ has_key (key iface addr) self.now }
     {
-        let own_addr = self.addr;
-        let same_iface = iface == self.iface;
-        let same_addr = addr.same(own_addr);
-        same_iface & same_addr
+        self.iface == iface && self.addr == addr
+    }
+
+    // Whether the first entry of its key is one that packets wait for.
+    fn is_awaited(&self, neighbors: &[Entry]) -> bool
+        ensures { result ≡ first_of (is_key (key_of self.now)) awaits_in false neighbors.now }
+    {
+        neighbors
+            .iter()
+            .find(|entry| entry.has_key(self.iface, self.addr))
+            .is_some_and(|entry| is_awaited(entry.state))
+    }
+}
+
+impl Handles {
+    pub fn new() -> Handles
+        ensures { result ≡ handles_of [] }
+    {
+        Handles {
+            slots: [0; PENDING_QUEUE_COUNT],
+            len: 0,
+        }
+    }
+
+    pub fn one(handle: u32) -> Handles
+        ensures { result ≡ handles_of (handle ∷ []) }
+    {
+        let mut handles = Handles::new();
+        handles.slots[0] = handle;
+        handles.len = 1;
+        handles
     }
 }
 
@@ -115,62 +113,48 @@ impl PendingQueue {
     pub fn new() -> PendingQueue
         ensures { result ≡ empty }
     {
-        let nowhere = Ipv6Addr { hi: 0, lo: 0 };
         let blank = PendingPacket {
             iface: 0,
-            addr: nowhere,
+            addr: Ipv6Addr { hi: 0, lo: 0 },
             handle: 0,
         };
-        let slots = [blank; PENDING_QUEUE_COUNT];
         PendingQueue {
-            slots: slots,
+            slots: [blank; PENDING_QUEUE_COUNT],
             len: 0,
         }
     }
 
     // Queues a packet that waits for its key to resolve.
-    pub fn push(self, iface: u8, addr: Ipv6Addr, handle: u32) -> Pushed
+    pub fn push(mut self, iface: u8, addr: Ipv6Addr, handle: u32) -> Pushed
         ensures { PushedTo self iface addr handle result }
     {
-        let mut queue = self;
-        let check = check_iface(iface);
-        match check {
-            Check::Refused(why) => {
-                return Pushed {
-                    queue: queue,
-                    answer: Push::Refused(why),
-                };
-            }
-            Check::Fine => {}
-        }
-        let packet = PendingPacket {
-            iface: iface,
-            addr: addr,
-            handle: handle,
-        };
-        let count = count_of(queue.len, PENDING_QUEUE_COUNT);
-        if count < PENDING_QUEUE_COUNT {
-            queue.slots[count] = packet;
-            queue.len = count + 1;
+        if let Err(why) = check_iface(iface) {
             return Pushed {
-                queue: queue,
-                answer: Push::Queued,
+                queue: self,
+                answer: Err(why),
             };
         }
-        let oldest = queue.slots[0];
-        let mut hole = 0;
-        let mut next = 1;
-        while next < count {
-            let later = queue.slots[next];
-            queue.slots[hole] = later;
-            hole = next;
-            next += 1;
+        let packet = PendingPacket {
+            iface,
+            addr,
+            handle,
+        };
+        let count = count_of(self.len, PENDING_QUEUE_COUNT);
+        if count < PENDING_QUEUE_COUNT {
+            self.slots[count] = packet;
+            self.len = count + 1;
+            return Pushed {
+                queue: self,
+                answer: Ok(None),
+            };
         }
-        queue.slots[hole] = packet;
-        queue.len = count;
+        let oldest = self.slots[0];
+        self.slots.copy_within(1.., 0);
+        self.slots[PENDING_QUEUE_COUNT - 1] = packet;
+        self.len = PENDING_QUEUE_COUNT;
         Pushed {
-            queue: queue,
-            answer: Push::Dropped(oldest.handle),
+            queue: self,
+            answer: Ok(Some(oldest.handle)),
         }
     }
 
@@ -178,40 +162,26 @@ impl PendingQueue {
     pub fn release(mut self, iface: u8, addr: Ipv6Addr) -> Released
         ensures { ReleasedTo self iface addr result }
     {
-        let check = check_iface(iface);
-        match check {
-            Check::Refused(why) => {
-                return Released {
-                    queue: self,
-                    answer: Release::Refused(why),
-                };
-            }
-            Check::Fine => {}
+        if let Err(why) = check_iface(iface) {
+            return Released {
+                queue: self,
+                answer: Err(why),
+            };
         }
         let count = count_of(self.len, PENDING_QUEUE_COUNT);
-        let mut i = 0;
-        while i < count {
-            let packet = self.slots[i];
-            if packet.has_key(iface, addr) {
-                let mut hole = i;
-                let mut next = i + 1;
-                while next < count {
-                    let later = self.slots[next];
-                    self.slots[hole] = later;
-                    hole = next;
-                    next += 1;
-                }
-                self.len = hole;
-                return Released {
-                    queue: self,
-                    answer: Release::Handle(packet.handle),
-                };
-            }
-            i += 1;
-        }
+        let found = table::position(&self.slots[..count], |packet| packet.has_key(iface, addr));
+        let Some(place) = found else {
+            return Released {
+                queue: self,
+                answer: Ok(None),
+            };
+        };
+        let packet = self.slots[place];
+        table::remove(&mut self.slots, count, place);
+        self.len = count - 1;
         Released {
             queue: self,
-            answer: Release::Nothing,
+            answer: Ok(Some(packet.handle)),
         }
     }
 
@@ -219,106 +189,54 @@ impl PendingQueue {
     pub fn purge_orphans(self, cache: NeighborCache) -> Purged
         ensures { OrphansPurged self cache result }
     {
-        let mut slots = self.slots;
-        let mut handles = [0u32; PENDING_QUEUE_COUNT];
-        let count = count_of(self.len, PENDING_QUEUE_COUNT);
-        let neighbors = count_of(cache.len, NEIGHBOR_CACHE_COUNT);
-        let mut orphans = 0;
-        let mut waiting = 0;
-        let mut i = 0;
-        while i < count {
-            let packet = slots[i];
-            let addr = packet.addr;
-            let mut awaited = false;
-            let mut j = 0;
-            while j < neighbors {
-                let entry = cache.slots[j];
-                if entry.has_key(packet.iface, addr) {
-                    let state = entry.state;
-                    awaited = is_awaited(state);
-                    break;
-                }
-                j += 1;
-            }
-            i += 1;
-            if awaited {
-                slots[waiting] = packet;
-                waiting += 1;
-            } else {
-                handles[orphans] = packet.handle;
-                orphans += 1;
-            }
-        }
-        Purged {
-            queue: PendingQueue {
-                slots: slots,
-                len: waiting,
-            },
-            handles: Handles {
-                slots: handles,
-                len: orphans,
-            },
-            outcome: Outcome::Done,
-        }
+        let neighbors = &cache.slots[..count_of(cache.len, NEIGHBOR_CACHE_COUNT)];
+        self.purge(|packet| packet.is_awaited(neighbors))
     }
 
     // Drops the packets of an interface.
     pub fn purge_iface(self, iface: u8) -> Purged
         ensures { PurgedTo self iface result }
     {
-        let mut handles = [0u32; PENDING_QUEUE_COUNT];
-        let check = check_iface(iface);
-        match check {
-            Check::Refused(why) => {
-                return Purged {
-                    queue: self,
-                    handles: Handles {
-                        slots: handles,
-                        len: 0,
-                    },
-                    outcome: Outcome::Refused(why),
-                };
-            }
-            Check::Fine => {}
+        if let Err(why) = check_iface(iface) {
+            return Purged {
+                queue: self,
+                handles: Handles::new(),
+                outcome: Err(why),
+            };
         }
-        let mut slots = self.slots;
+        self.purge(|packet| packet.iface != iface)
+    }
+
+    // Keeps the packets that stay, in order, and hands back the handles of the others.
+    fn purge<F: Fn(&PendingPacket) -> bool>(self, stays: F) -> Purged
+        requires { F.IsAlwaysCallable stays }
+        ensures { PurgesBy (λ x b. FnReturnsAt F.Fn stays x b) self result }
+    {
         let count = count_of(self.len, PENDING_QUEUE_COUNT);
-        let mut dropped = 0;
+        let mut slots = self.slots;
         let mut kept = 0;
-        let mut i = 0;
-        while i < count {
-            let packet = slots[i];
-            i += 1;
-            if iface == packet.iface {
-                handles[dropped] = packet.handle;
-                dropped += 1;
-            } else {
-                slots[kept] = packet;
+        let mut handles = Handles::new();
+        for packet in &self.slots[..count] {
+            if stays(packet) {
+                slots[kept] = *packet;
                 kept += 1;
+            } else {
+                handles.slots[handles.len] = packet.handle;
+                handles.len += 1;
             }
         }
         Purged {
-            queue: PendingQueue {
-                slots: slots,
-                len: kept,
-            },
-            handles: Handles {
-                slots: handles,
-                len: dropped,
-            },
-            outcome: Outcome::Done,
+            queue: PendingQueue { slots, len: kept },
+            handles,
+            outcome: Ok(()),
         }
     }
 
     // The packet at an index, for a listing.
-    pub fn at(self, index: usize) -> Waiting
+    pub fn at(self, index: usize) -> Option<PendingPacket>
         ensures { WaitingAt self index result }
     {
         let count = count_of(self.len, PENDING_QUEUE_COUNT);
-        if index < count {
-            let packet = self.slots[index];
-            return Waiting::Is(packet);
-        }
-        Waiting::Nothing
+        self.slots[..count].get(index).copied()
     }
 }

@@ -2,15 +2,13 @@
 // which it holds to 1.answers, .. Then two of each against answers that are wrong, which shows that a difference is seen.
 #![tactic(auto)]
 
-use runner::Ended;
+use runner::RunError;
 use std::fs::File;
 use std::io;
 use std::io::Read;
 use std::rt::Files;
 use streams::sink::{Sink, Target};
-
-// More cases than there are.
-const MOST: u64 = 100000;
+use text::print::Text;
 
 // Cases that are held to wrong answers too: one whose output is a few lines, and one of several blocks.
 const SHORT: u64 = 1;
@@ -36,42 +34,32 @@ pub enum Case {
     NoAnswer,
 }
 
-// Opens a file by the part of `path` that holds its name.
-fn open_part<R: Files>(rt: &R, path: &[u8], len: usize) -> Option<R::File> {
-    let name = path.get(..len)?;
-    let name = str::from_utf8(name).ok()?;
+// Opens the file of a case whose name ends in suffix.
+fn open_case<R: Files>(rt: &R, number: u64, suffix: &str) -> Option<R::File> {
+    let mut room = [0u8; 32];
+    let mut path = Text {
+        buf: &mut room,
+        at: 0,
+    };
+    path.number(number);
+    path.word(suffix.as_bytes());
+    let name = str::from_utf8(path.as_bytes()).ok()?;
     File::open(rt, name).ok()
 }
 
-// Opens the file of a case whose name ends in suffix.
-fn open_case<R: Files>(rt: &R, number: u64, suffix: &str) -> Option<R::File> {
-    let mut path = [0u8; 32];
-    let dot = text::print::number(&mut path, 0, number);
-    let len = text::print::word(&mut path, dot, suffix.as_bytes());
-    open_part(rt, &path, len)
-}
-
-// The same code as the event program's, with its output compared as it comes.
-fn events_compared<F: Read + Drop>(from: &mut F, held: F) -> Case {
+// The same code as the event program's, with its output compared as it comes: whether it is the same.
+fn same_events<F: Read + Drop>(from: &mut F, held: F) -> bool {
     let mut target: Target<io::Sink, F> = Target::Compare(held);
-    let ran = runner::run(from, &mut target, Sink::new());
-    match ran.ended {
-        Ended::Listed => Case::Same,
-        Ended::BadLine(_) => Case::Same,
-        Ended::NotRead => Case::Differs,
-        Ended::NotWritten => Case::Differs,
-    }
+    let mut sink = Sink::new();
+    let end = runner::run(from, &mut target, &mut sink);
+    matches!(end, Ok(()) | Err(RunError::BadLine(_)))
 }
 
 // And as that of the calls.
-fn calls_compared<F: Read + Drop>(from: &mut F, held: F) -> Case {
+fn same_calls<F: Read + Drop>(from: &mut F, held: F) -> bool {
     let mut target: Target<io::Sink, F> = Target::Compare(held);
-    let ran = caller::run(from, &mut target, Sink::new());
-    match ran.ended {
-        caller::Ended::Answered => Case::Same,
-        caller::Ended::NotRead => Case::Differs,
-        caller::Ended::NotWritten => Case::Differs,
-    }
+    let mut sink = Sink::new();
+    caller::run(from, &mut target, &mut sink).is_ok()
 }
 
 fn open_input<R: Files>(rt: &R, kind: Kind, number: u64) -> Option<R::File> {
@@ -81,10 +69,10 @@ fn open_input<R: Files>(rt: &R, kind: Kind, number: u64) -> Option<R::File> {
     }
 }
 
-fn compared<F: Read + Drop>(kind: Kind, from: &mut F, held: F) -> Case {
+fn same<F: Read + Drop>(kind: Kind, from: &mut F, held: F) -> bool {
     match kind {
-        Kind::Events => events_compared(from, held),
-        Kind::Calls => calls_compared(from, held),
+        Kind::Events => same_events(from, held),
+        Kind::Calls => same_calls(from, held),
     }
 }
 
@@ -96,66 +84,63 @@ fn one_case<R: Files>(rt: &R, kind: Kind, number: u64, suffix: &str) -> Case {
     let Some(held) = open_case(rt, number, suffix) else {
         return Case::NoAnswer;
     };
-    compared(kind, &mut from, held)
+    if same(kind, &mut from, held) {
+        Case::Same
+    } else {
+        Case::Differs
+    }
 }
 
 fn recorded(rt: &(impl Files + Print), kind: Kind, suffix: &str, what: &str) -> io::Result<()> {
-    let mut number: u64 = 0;
+    let mut cases: u64 = 0;
     let mut same: u64 = 0;
-    while number < MOST {
-        match one_case(rt, kind, number + 1, suffix) {
-            Case::Same => {
-                same = same.wrapping_add(1);
-            }
-            Case::Differs => println!(rt; "differs: {}", number + 1)?,
-            Case::NoAnswer => println!(rt; "no answer: {}", number + 1)?,
+    for number in 1.. {
+        match one_case(rt, kind, number, suffix) {
+            Case::Same => same = same.wrapping_add(1),
+            Case::Differs => println!(rt; "differs: {number}")?,
+            Case::NoAnswer => println!(rt; "no answer: {number}")?,
             Case::Missing => break,
         }
-        number += 1;
+        cases = number;
     }
-    println!(rt; "{same} of {number} {what}")
+    println!(rt; "{same} of {cases} {what}")
 }
 
-// 1 where the case is not as the file has it whose name ends in suffix, else 0.
-fn told_apart(rt: &impl Files, kind: Kind, number: u64, suffix: &str) -> u64 {
-    match one_case(rt, kind, number, suffix) {
-        Case::Differs => 1,
-        Case::Same => 0,
-        Case::NoAnswer => 0,
-        Case::Missing => 0,
+// Cases, each held to the file whose name ends in the text beside its number, which has a wrong answer.
+fn wrong(
+    rt: &(impl Files + Print),
+    kind: Kind,
+    cases: &[(u64, &str)],
+    what: &str,
+) -> io::Result<()> {
+    let mut told: u64 = 0;
+    for (number, suffix) in cases {
+        if matches!(one_case(rt, kind, *number, suffix), Case::Differs) {
+            told = told.wrapping_add(1);
+        }
     }
-}
-
-fn sum(first: u64, second: u64, third: u64, fourth: u64) -> u64 {
-    first
-        .wrapping_add(second)
-        .wrapping_add(third)
-        .wrapping_add(fourth)
+    println!(rt; "{told} of {} {what} told apart", cases.len())
 }
 
 // A byte of the answer is changed; its last byte is missing; it has one more. And, of a long answer, a byte that is compared before the
 // last block.
-fn wrong_events(rt: &(impl Files + Print)) -> io::Result<()> {
-    let changed = told_apart(rt, Kind::Events, SHORT, ".changed");
-    let short = told_apart(rt, Kind::Events, SHORT, ".short");
-    let long = told_apart(rt, Kind::Events, SHORT, ".long");
-    let early = told_apart(rt, Kind::Events, LONG, ".changed");
-    let told = sum(changed, short, long, early);
-    println!(rt; "{told} of 4 wrong answers told apart")
-}
+const WRONG_EVENTS: [(u64, &str); 4] = [
+    (SHORT, ".changed"),
+    (SHORT, ".short"),
+    (SHORT, ".long"),
+    (LONG, ".changed"),
+];
 
-fn wrong_calls(rt: &(impl Files + Print)) -> io::Result<()> {
-    let changed = told_apart(rt, Kind::Calls, SHORT, ".answers-changed");
-    let short = told_apart(rt, Kind::Calls, SHORT, ".answers-short");
-    let long = told_apart(rt, Kind::Calls, SHORT, ".answers-long");
-    let early = told_apart(rt, Kind::Calls, LONG_CALLS, ".answers-changed");
-    let told = sum(changed, short, long, early);
-    println!(rt; "{told} of 4 wrong answers to calls told apart")
-}
+const WRONG_CALLS: [(u64, &str); 4] = [
+    (SHORT, ".answers-changed"),
+    (SHORT, ".answers-short"),
+    (SHORT, ".answers-long"),
+    (LONG_CALLS, ".answers-changed"),
+];
 
 fn main(rt: HostRuntime) -> io::Result<()> {
     recorded(&rt, Kind::Events, ".out", "the same")?;
-    wrong_events(&rt)?;
+    wrong(&rt, Kind::Events, &WRONG_EVENTS, "wrong answers")?;
     recorded(&rt, Kind::Calls, ".answers", "call files the same")?;
-    wrong_calls(&rt)
+    wrong(&rt, Kind::Calls, &WRONG_CALLS, "wrong answers to calls")
 }

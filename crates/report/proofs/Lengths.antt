@@ -20,8 +20,8 @@ use Rattle.slaac.specs.declared.Router.{Router}
 use Rattle.neighbor.specs.declared.Entry.{Entry}
 use Rattle.neighbor.specs.declared.State.TheVariants.{Started, Incomplete, Reachable, Stale}
 use Rattle.neighbor.specs.declared.State.{State}
-use Rattle.report.specs.AnswerLines.{newline, each_line, solicit_word, refused_word, off_word, bad_word, retransmit_word, failed_word, solicit_line, refused_line, off_line, bad_line, address_line, probe_line, slot_line, probe_lines, event_most}
-use Rattle.report.specs.StateLines.{heading_line, section, address_field, hardware_field, number_field, end_field, prefix_fields, prefix_line, router_fields, router_line, origin_field, preferred_field, addr_fields, addr_line, route_origin_field, expiry_field, route_fields, route_line, neighbor_field, neighbor_line, prefixes_text, routers_text, addresses_text, routes_text, neighbors_text, state_text, section_most, state_most, reachable_word, stale_word, dash_word, prefixes_word, routers_word, addresses_word, routes_word, neighbors_word}
+use Rattle.report.specs.AnswerLines.{newline, each_line, solicit_word, refused_word, off_word, bad_word, retransmit_word, failed_word, solicit_line, refused_line, off_line, bad_line, address_line, probe_line, probe_lines, event_most}
+use Rattle.report.specs.StateLines.{heading_line, section, address_field, hardware_field, number_field, end_field, prefix_fields, prefix_line, router_fields, router_line, origin_field, preferred_field, addr_fields, addr_line, route_origin_field, expiry_field, route_fields, route_line, neighbor_field, neighbor_fields, neighbor_line, prefixes_text, routers_text, addresses_text, routes_text, neighbors_text, state_text, section_most, state_most, reachable_word, stale_word, dash_word, prefixes_word, routers_word, addresses_word, routes_word, neighbors_word}
 use Rattle.sweep.specs.declared.Events.{Events}
 use Rattle.sweep.specs.declared.ProbeEvent.TheVariants.{Retransmit, Failed}
 use Rattle.sweep.specs.declared.ProbeEvent.{ProbeEvent}
@@ -106,7 +106,7 @@ each_short line m w (x ∷ xs) (suc n) h = rw (mul_more m n) (then (w x) (each_s
 
 pub probes_short : (t : ℕ) (v : Events) → length (take v.len v.slots) ≤ 16 → length (probe_lines t v) ≤ event_most
 unfolding probe_lines
-probes_short t v h = (each_short (slot_line t) 65 (λ e. probe_short t e.event) (take v.len v.slots) 16 h).is
+probes_short t v h = (each_short (probe_line t) 65 (probe_short t) (take v.len v.slots) 16 h).is
 
 -- ---- lines of the state
 
@@ -173,7 +173,7 @@ state_field_short (Stale h) =
     at_most 63 (then {b = dash_word} {n = 2} (then {a = stale_word} {m = 7} (record { is = omega arith }) (hardware h)) (record { is = omega arith })) (omega arith)
 
 neighbor_short : (e : Entry) → Short (neighbor_line e) 96
-unfolding neighbor_line
+unfolding neighbor_line neighbor_fields
 neighbor_short e = then (then (address e.addr) (state_field_short e.state)) end
 
 heading_short : (name : List ℕ) (n : ℕ) → length name ≤ 10 → Short (heading_line name n) 31

@@ -4,17 +4,21 @@ use Rattle.std.specs.Prelude.{ℕ, ◌+◌, ◌*◌, ◌≤◌, List, [], ◌∷
 use Rattle.text.specs.Place.{Put}
 use Rattle.text.specs.Decimal.{decimal}
 use Rattle.text.specs.Hex.{hexed}
+use Rattle.text.specs.declared.print.Text.{Text}
 use Rattle.wire.specs.Rfc4291.{address_bytes}
 use Rattle.wire.specs.declared.ipv6.Ipv6Addr.{Ipv6Addr}
 use Rattle.sweep.specs.declared.ProbeEvent.{ProbeEvent}
 use Rattle.sweep.specs.declared.ProbeEvent.TheVariants.{Retransmit, Failed}
-use Rattle.sweep.specs.declared.EventSlot.{EventSlot}
 use Rattle.sweep.specs.declared.Events.{Events}
 
 -- a text of at most `most` bytes was put at `at`, and r is the place after it
 pub record Printed (text : List ℕ) (most : ℕ) (out : List ℕ) (at r : ℕ) (out' : List ℕ) : Type 0 where
   pub put : Put out at text r out'
   pub short : length text ≤ most
+
+-- the same, behind what is gathered
+abbrev pub Prints : List ℕ → ℕ → Text → Text → Type 0
+Prints text most t t' = Printed text most t.buf.now t.at t'.at t'.buf.now
 
 -- the words, in ASCII, with the spaces around them
 abbrev pub solicit_word : List ℕ
@@ -65,12 +69,9 @@ abbrev pub probe_line : ℕ → ProbeEvent → List ℕ
 probe_line t (Retransmit a) = address_line t retransmit_word a
 probe_line t (Failed a) = address_line t failed_word a
 
-abbrev pub slot_line : ℕ → EventSlot → List ℕ
-slot_line t e = probe_line t e.event
-
 -- the events of a sweep
 unfoldable pub probe_lines : ℕ → Events → List ℕ
-probe_lines t v = each_line (slot_line t) (take v.len v.slots)
+probe_lines t v = each_line (probe_line t) (take v.len v.slots)
 
 -- what an event prints at most: the sixteen events of a sweep, each with a time of at most 20 digits, a word of at most 12 bytes with its spaces,
 -- the 32 digits of an address, and the line's end

@@ -2,7 +2,10 @@
 -- application's, `never` run out); via, origin, expiry; neighbour, state (`incomplete`, `reachable`, `stale`), hardware address, expiry (`-` if
 -- none)". Request 2026-01: "the listing prints `forever`", for a prefix's two times and an address's preferred. Assumes nothing.
 use Rattle.std.specs.Prelude.{ℕ, ◌+◌, ◌*◌, List, [], ◌∷◌, ◌++◌, length}
+use Rattle.std.specs.Borrow.{MutBor}
 use Rattle.text.specs.Decimal.{decimal}
+use Rattle.text.specs.Gathered.{Adds}
+use Rattle.text.specs.declared.print.Text.{Text}
 use Rattle.text.specs.Hex.{hexed}
 use Rattle.time.specs.declared.Expiry.{Expiry}
 use Rattle.time.specs.declared.Expiry.TheVariants.{At, Forever}
@@ -66,6 +69,14 @@ reachable_word = 32 ∷ 114 ∷ 101 ∷ 97 ∷ 99 ∷ 104 ∷ 97 ∷ 98 ∷ 108 
 
 abbrev pub stale_word : List ℕ
 stale_word = 32 ∷ 115 ∷ 116 ∷ 97 ∷ 108 ∷ 101 ∷ 32 ∷ []
+
+-- what a function leaves that puts these fields of an entry behind what is gathered
+abbrev pub PutsFields : {A : Type 0} → (MutBor Text → A → MutBor Text → Type 0) → (A → List ℕ) → Type 0
+PutsFields {A} Leaves fields = (t : MutBor Text) (e : A) (t' : MutBor Text) → Leaves t e t' → Adds t.now (fields e) t'.now
+
+-- the line of an entry with these fields
+abbrev pub ended : {A : Type 0} → (A → List ℕ) → A → List ℕ
+ended fields e = fields e ++ newline
 
 -- a table's name and its count
 unfoldable pub heading_line : List ℕ → ℕ → List ℕ
@@ -147,8 +158,11 @@ listed_field (Expired h) = (stale_word ++ hardware_field h) ++ dash_word
 abbrev pub neighbor_field : State → List ℕ
 neighbor_field s = listed_field (listed_state s)
 
+unfoldable pub neighbor_fields : Entry → List ℕ
+neighbor_fields e = address_field e.addr ++ neighbor_field e.state
+
 unfoldable pub neighbor_line : Entry → List ℕ
-neighbor_line e = (address_field e.addr ++ neighbor_field e.state) ++ newline
+neighbor_line e = neighbor_fields e ++ newline
 
 -- what a section of a table of that size has at most. A heading: a name of at most 10 bytes with its space, a count of at most 20 digits, and the
 -- line's end. A line: the 32 digits of an address, 63 bytes of further fields (of a prefix three numbers, each with a space in front), and its end

@@ -1,78 +1,71 @@
 // The lines that are printed for an event. Each begins with the event's time.
-ghost use Rattle.text.specs.Place.{Put};
-ghost use Rattle.report.specs.AnswerLines.{solicit_line, refused_line, off_line, bad_line, address_line, probe_line, probe_lines, event_most, Printed};
+ghost use Rattle.text.specs.Gathered.{Adds};
+ghost use Rattle.report.specs.AnswerLines.{solicit_line, refused_line, off_line, bad_line, address_line, probe_line, probe_lines, event_most, Prints};
 
-use neighbor::NEIGHBOR_CACHE_COUNT;
 use sweep::{Events, ProbeEvent};
 use table::count_of;
-use text::print;
+use text::print::Text;
 use wire::ipv6::Ipv6Addr;
 
-pub fn solicit(out: &mut [u8], at: usize, time: u64, message: &[u8]) -> usize
-    ensures { Put out.old at (solicit_line time message.now) result out.new }
+pub fn solicit(out: &mut Text, time: u64, message: &[u8])
+    ensures { Adds out.old (solicit_line time message.now) out.new }
 {
-    let after_time = print::number(out, at, time);
-    let after_word = print::word(out, after_time, b" solicit ");
-    let after_message = print::hexes(out, after_word, message);
-    print::byte(out, after_message, b'\n')
+    out.number(time);
+    out.word(b" solicit ");
+    out.hexes(message);
+    out.byte(b'\n');
 }
 
-pub fn refused(out: &mut [u8], at: usize, time: u64, number: u8) -> usize
-    ensures { Put out.old at (refused_line time number) result out.new }
+pub fn refused(out: &mut Text, time: u64, number: u8)
+    ensures { Adds out.old (refused_line time number) out.new }
 {
-    let after_time = print::number(out, at, time);
-    let after_word = print::word(out, after_time, b" refused ");
-    let after_number = print::number(out, after_word, number as u64);
-    print::byte(out, after_number, b'\n')
+    out.number(time);
+    out.word(b" refused ");
+    out.number(number as u64);
+    out.byte(b'\n');
 }
 
-pub fn off(out: &mut [u8], at: usize, time: u64) -> usize
-    ensures { Put out.old at (off_line time) result out.new }
+pub fn off(out: &mut Text, time: u64)
+    ensures { Adds out.old (off_line time) out.new }
 {
-    let after_time = print::number(out, at, time);
-    print::word(out, after_time, b" off\n")
+    out.number(time);
+    out.word(b" off\n");
 }
 
 // The last line, where that line of the input is bad.
-pub fn bad_line(out: &mut [u8], at: usize, line: u64) -> usize
-    ensures { Put out.old at (bad_line line) result out.new }
+pub fn bad_line(out: &mut Text, line: u64)
+    ensures { Adds out.old (bad_line line) out.new }
 {
-    let after_word = print::word(out, at, b"bad line ");
-    let after_line = print::number(out, after_word, line);
-    print::byte(out, after_line, b'\n')
+    out.word(b"bad line ");
+    out.number(line);
+    out.byte(b'\n');
 }
 
 // A word and an address.
-fn address_line(out: &mut [u8], at: usize, time: u64, word: &[u8], addr: Ipv6Addr) -> usize
-    ensures { Put out.old at (address_line time word.now addr) result out.new }
+fn address_line(out: &mut Text, time: u64, word: &[u8], addr: Ipv6Addr)
+    ensures { Adds out.old (address_line time word.now addr) out.new }
 {
-    let after_time = print::number(out, at, time);
-    let after_word = print::word(out, after_time, word);
-    let after_addr = print::address(out, after_word, addr);
-    print::byte(out, after_addr, b'\n')
+    out.number(time);
+    out.word(word);
+    out.address(addr);
+    out.byte(b'\n');
 }
 
-fn probe(out: &mut [u8], at: usize, time: u64, event: ProbeEvent) -> usize
-    ensures { Put out.old at (probe_line time event) result out.new }
+fn probe(out: &mut Text, time: u64, event: ProbeEvent)
+    ensures { Adds out.old (probe_line time event) out.new }
 {
     match event {
-        ProbeEvent::Retransmit(addr) => address_line(out, at, time, b" retransmit ", addr),
-        ProbeEvent::Failed(addr) => address_line(out, at, time, b" failed ", addr),
+        ProbeEvent::Retransmit(addr) => address_line(out, time, b" retransmit ", addr),
+        ProbeEvent::Failed(addr) => address_line(out, time, b" failed ", addr),
     }
 }
 
 // The events of a sweep, in order.
-pub fn probes(out: &mut [u8], at: usize, time: u64, events: Events) -> usize
-    ensures { Printed (probe_lines time events) event_most out.old at result out.new }
+pub fn probes(out: &mut Text, time: u64, events: Events)
+    ensures { Prints (probe_lines time events) event_most out.old out.new }
 {
-    let count = count_of(events.len, NEIGHBOR_CACHE_COUNT);
-    let mut next = at;
-    let mut i = 0;
-    while i < count {
-        let slot = events.slots[i];
-        let event = slot.event;
-        next = probe(out, next, time, event);
-        i += 1;
+    let count = count_of(events.len, events.slots.len());
+    for event in &events.slots[..count] {
+        probe(out, time, *event);
     }
-    next
 }

@@ -1,26 +1,24 @@
 -- Laws of a run: nothing that is printed is cut, and all of it is handed over once. Assumes nothing.
-use Rattle.std.proofs.Common.{◌≡◌, ℕ, ◌+◌, ◌^◌, ◌<◌, ◌≤◌, Bool, true, false, cond, not, ltb, List, [], ◌∷◌, ◌++◌, length, take, drop, sym, refl, ap, ◌∙◌, subst, append_assoc, append-nil, arith, length-append, length-take-le, take_at, ltb-true, ltb-false, lt-ltb}
+use Rattle.std.proofs.Common.{◌≡◌, ℕ, ◌+◌, ◌^◌, ◌<◌, ◌≤◌, Bool, true, false, cond, ltb, List, [], ◌∷◌, ◌++◌, length, take, drop, sym, refl, ap, ◌∙◌, subst, append_assoc, append-nil, arith, length-append, length-take-le, take_at, ltb-true, ltb-false, lt-ltb}
 use lib.Seq.{sets-eq}
 use native.Mathlib.Nat.{mod-add-mod}
-use Rattle.std.specs.Prelude.{Option, Some, None}
+use Rattle.std.specs.Prelude.{Option, Some, None, Ok, Err}
 use Rattle.std.specs.Io.KnownBytes.{Appends}
 use Rattle.report.proofs.Lengths.{bad_short}
 use Rattle.report.specs.AnswerLines.{bad_line}
-use Rattle.runner.specs.OutputRules.{failed, end_of, end_text, output_from, ending_from, output_after, ending_after}
-use Rattle.runner.specs.RunRules.{gathered, Room, Whole, Handed, begun_run, Turned, turned_at, Finished, Gone, ended_at, bytes, Came, none, another, NoLine, stops, enough, RunTo}
-use Rattle.runner.specs.declared.Ended.TheVariants.{BadLine, NotWritten}
-use Rattle.runner.specs.declared.Ended.{Ended}
+use Rattle.runner.specs.OutputRules.{failed, Ending, end_of, end_text, output_from, ending_from, output_after, ending_after}
+use Rattle.runner.specs.RunRules.{gathered, Room, Whole, Handed, begun_run, Turned, turned_at, Written, Finished, Gone, ended_at, bytes, Came, none, another, NoLine, stops, enough, RunTo}
+use Rattle.runner.specs.declared.RunError.TheVariants.{BadLine, NotWritten as Unwritten}
 use Rattle.runner.specs.declared.Progress.{Progress}
-use Rattle.runner.specs.declared.Ran.{Ran}
 use Rattle.script.specs.ReadingRules.{said_in, rank}
 use Rattle.script.specs.StepRules.{step_of}
 use Rattle.script.specs.declared.card.Card.{Card}
 use Rattle.script.specs.declared.reading.Want.TheVariants.{Mac, Addresses, Address, Events, Event, Nothing, Failed}
 use Rattle.script.specs.declared.reading.Want.{Want}
 use Rattle.streams.proofs.ReadingLaws.{Held, held}
-use Rattle.streams.specs.Reading.{reader, Fits, Next}
-use Rattle.streams.specs.Writing.{wrapped, sink_of, hand_over, counted_by, Wrote}
-use Rattle.streams.specs.declared.reader.Line.TheVariants.{At, End, Long, Error}
+use Rattle.streams.specs.Reading.{reader, Fits, Answer, Next}
+use Rattle.streams.specs.Writing.{wrapped, sink_of, hand_over, Wrote}
+use Rattle.streams.specs.declared.reader.Line.TheVariants.{At, End, Long}
 use Rattle.streams.specs.declared.reader.Line.{Line}
 use Rattle.streams.specs.declared.reader.Reader.{Reader}
 use Rattle.streams.specs.declared.sink.Sink.{Sink}
@@ -28,40 +26,32 @@ use Rattle.streams.specs.declared.sink.Target.{Target}
 use Rattle.streams.specs.declared.sink.Target.TheVariants.{Write, Compare}
 use Rattle.text.proofs.PlaceLaws.{put_none}
 use Rattle.text.specs.Place.{put, Put}
+use Rattle.text.specs.declared.print.Text.{Text}
 
 -- ---- room
 
-all_put : {text out out' : List ℕ} {at r : ℕ} → Put out at text r out' → length text ≤ 4096 → Room at out → Whole text out at r out'
+all_put : {text out out' : List ℕ} {at r : ℕ} → Put out at text r out' → length text ≤ 4096 → (at ≤ gathered) × (65536 ≤ length out) → Whole text out at r out'
 all_put p t h =
     let n = p.next in
     record { is = p.is; place = omega (arith, h.0, h.1); same = p.same; within = omega (arith, h.0, h.1) }
 
 -- for all of the end
-pub ends_bad : (end : Ended) (x : Card) (n : ℕ) {out out' : List ℕ} {at r : ℕ} → end ≡ BadLine n → Put out at (bad_line n) r out' → Room at out
+pub ends_bad : (end : Ending) (x : Card) (n : ℕ) {out out' : List ℕ} {at r : ℕ} → end ≡ Err (BadLine n) → Put out at (bad_line n) r out' → (at ≤ gathered) × (65536 ≤ length out)
     → Whole (end_text end x) out at r out'
 ends_bad end x n e p h = let s = (bad_short n).is in rw e (all_put p (omega arith) h)
 
-pub ends_quiet : (end : Ended) (x : Card) (out : List ℕ) (at : ℕ) → end_text end x ≡ [] → Room at out → Whole (end_text end x) out at at out
+pub ends_quiet : (end : Ending) (x : Card) (out : List ℕ) (at : ℕ) → end_text end x ≡ [] → (at ≤ gathered) × (65536 ≤ length out) → Whole (end_text end x) out at at out
 ends_quiet end x out at e h = rw e (all_put (put_none out at) (omega arith) h)
 
 -- ---- the end
 
 -- what is no line by the match
-pub no_line : (l : Line) → ((from to : ℕ) (left : Reader) → l ≡ At from to left → ⊥) → NoLine l
+pub no_line : (l : Line) → ((from to : ℕ) (left : Reader) → l ≡ At from to left → ⊥) → NoLine (Ok l)
 no_line End h = tt
 no_line (Long left) h = tt
-no_line Error h = tt
 no_line (At from to left) h = h from to left refl
 
-pub for_sink : {W R : Type 0} {holds : W → Option (List ℕ)} {target target' : Target W R} {buf : List ℕ} {s t : Sink} {r : Ran} {buf' : List ℕ}
-    → s ≡ t → RunTo holds target buf s r buf' target' → RunTo holds target buf t r buf' target'
-for_sink e p = rw (← e) p
-
 -- ---- what is gathered and what was handed over
-
-pub not-false : (b : Bool) → not b ≡ false → b ≡ true
-not-false true e = refl
-not-false false e = sym e
 
 twice : (a n : ℕ) (s : Sink) → hand_over n (hand_over a s) ≡ hand_over (a + n) s
 twice a n s =
@@ -104,29 +94,30 @@ abbrev pub said : Progress → List ℕ → List ℕ
 said run line = (step_of run.want run.card line).text
 
 -- the text so far: a part was handed over, and the rest is gathered
-pub record Kept {W R : Type 0} (holds : W → Option (List ℕ)) (target₀ : Target W R) (sink₀ : Sink) (text : List ℕ) (run : Progress) (out : List ℕ)
+pub record Kept {W R : Type 0} (holds : W → Option (List ℕ)) (target₀ : Target W R) (sink₀ : Sink) (text : List ℕ) (sink : Sink) (out : Text)
     (target : Target W R) : Type 0 where
   pub over : List ℕ
   pub wrote : Wrote holds target₀ target over
-  pub split : text ≡ over ++ take run.at out
-  pub sink : (n : ℕ) → hand_over n run.sink ≡ hand_over (length over + n) sink₀
-  pub room : Room run.at out
+  pub split : text ≡ over ++ take out.at out.buf.now
+  pub counts : (n : ℕ) → hand_over n sink ≡ hand_over (length over + n) sink₀
+  pub room : Room out
 
 module _ {W R : Type 0} {holds : W → Option (List ℕ)} {target₀ target target' : Target W R} {sink₀ : Sink} {text : List ℕ} {run : Progress}
-    {line out : List ℕ} {r : Progress} {out' : List ℕ} (k : Kept holds target₀ sink₀ text run out target) (t : Turned run line out r out')
-    (q : Handed holds target (turned_at run line) out' r.ok target') (o : r.ok ≡ true) where
-  gathers : take t.to out' ≡ take run.at out ++ said run line
+    {sink : Sink} {line : List ℕ} {out : Text} {r : Progress} {sink' : Sink} {out' : Text} (k : Kept holds target₀ sink₀ text sink out target)
+    (t : Turned run sink line out (Ok r) sink' out') (q : Handed holds target (turned_at run out line) out'.buf.now (Ok r) target') where
+  gathers : take t.to out'.buf.now ≡ take out.at out.buf.now ++ said run line
   gathers =
       let p = t.put in
-      let w : run.at + length (said run line) ≤ length out = let a = p.within in let b = p.place in omega arith in
-      ap (λ (l : List ℕ). take t.to l) p.is ∙ ap (λ (n : ℕ). take n (put out run.at (said run line))) p.place ∙ take_put (said run line) out run.at w
+      let w : out.at + length (said run line) ≤ length out.buf.now = let a = p.within in let b = p.place in omega arith in
+      ap (λ (l : List ℕ). take t.to l) p.is ∙ ap (λ (n : ℕ). take n (put out.buf.now out.at (said run line))) p.place
+      ∙ take_put (said run line) out.buf.now out.at w
 
-  so_far : text ++ said run line ≡ k.over ++ take t.to out'
+  so_far : text ++ said run line ≡ k.over ++ take t.to out'.buf.now
   so_far =
-      ap (λ (l : List ℕ). l ++ said run line) k.split ∙ append_assoc k.over (take run.at out) (said run line) ∙ ap (λ (l : List ℕ). k.over ++ l) (sym gathers)
+      ap (λ (l : List ℕ). l ++ said run line) k.split ∙ append_assoc k.over (take out.at out.buf.now) (said run line) ∙ ap (λ (l : List ℕ). k.over ++ l) (sym gathers)
 
-  kept_by : (b : Bool) → ltb t.to gathered ≡ b → r.at ≡ cond b t.to 0 → r.sink ≡ cond b run.sink (hand_over t.to run.sink)
-      → Kept holds target₀ sink₀ (text ++ said run line) r out' target'
+  kept_by : (b : Bool) → ltb t.to gathered ≡ b → out'.at ≡ cond b t.to 0 → sink' ≡ cond b sink (hand_over t.to sink)
+      → Kept holds target₀ sink₀ (text ++ said run line) sink' out' target'
   kept_by true e a s =
       let h = ltb-true t.to gathered e in
       let m = t.put.same in
@@ -135,58 +126,59 @@ module _ {W R : Type 0} {holds : W → Option (List ℕ)} {target₀ target targ
       record {
         over = k.over;
         wrote = rw (q.kept (omega arith)) k.wrote;
-        split = so_far ∙ ap (λ (n : ℕ). k.over ++ take n out') (sym a);
-        sink = λ n. ap (hand_over n) s ∙ k.sink n;
+        split = so_far ∙ ap (λ (n : ℕ). k.over ++ take n out'.buf.now) (sym a);
+        counts = λ n. ap (hand_over n) s ∙ k.counts n;
         room = (omega arith, omega arith);
       }
   kept_by false e a s =
       let m = t.put.same in
       let w = t.put.within in
       let room = k.room.1 in
-      let l : length (k.over ++ take t.to out') ≡ length k.over + t.to =
-      length-append k.over (take t.to out') ∙ ap (λ (n : ℕ). length k.over + n) (length-take-le t.to out' (omega arith)) in
+      let l : length (k.over ++ take t.to out'.buf.now) ≡ length k.over + t.to =
+      length-append k.over (take t.to out'.buf.now) ∙ ap (λ (n : ℕ). length k.over + n) (length-take-le t.to out'.buf.now (omega arith)) in
       let place = t.put.place in
       let h = ltb-false t.to gathered e in
       record {
-        over = k.over ++ take t.to out';
-        wrote = wrote_on holds target₀ target target' k.over (take t.to out') k.wrote
-            (rw place (q.wrote (omega arith) o));
-        split = so_far ∙ sym (append-nil (k.over ++ take t.to out')) ∙ ap (λ (n : ℕ). (k.over ++ take t.to out') ++ take n out') (sym a);
-        sink = λ n.
-            let i : length k.over + (t.to + n) ≡ length (k.over ++ take t.to out') + n = omega arith in
-            ap (hand_over n) s ∙ twice t.to n run.sink ∙ k.sink (t.to + n) ∙ ap (λ (j : ℕ). hand_over j sink₀) i;
+        over = k.over ++ take t.to out'.buf.now;
+        wrote = wrote_on holds target₀ target target' k.over (take t.to out'.buf.now) k.wrote (rw place (q.wrote (omega arith)));
+        split = so_far ∙ sym (append-nil (k.over ++ take t.to out'.buf.now)) ∙ ap (λ (n : ℕ). (k.over ++ take t.to out'.buf.now) ++ take n out'.buf.now) (sym a);
+        counts = λ n.
+            let i : length k.over + (t.to + n) ≡ length (k.over ++ take t.to out'.buf.now) + n = omega arith in
+            ap (hand_over n) s ∙ twice t.to n sink ∙ k.counts (t.to + n) ∙ ap (λ (j : ℕ). hand_over j sink₀) i;
         room = (omega arith, omega arith);
       }
 
-  pub kept_on : Kept holds target₀ sink₀ (text ++ said run line) r out' target'
-  kept_on =
-      kept_by (ltb t.to gathered) refl t.place
-      (t.sink ∙ ap (λ (b : Bool). cond (ltb t.to gathered) run.sink (counted_by b t.to run.sink)) o)
+  pub kept_on : Kept holds target₀ sink₀ (text ++ said run line) sink' out' target'
+  kept_on = kept_by (ltb t.to gathered) refl t.place t.sink
 
 -- at the end all of it was handed over
-all_handed : {W R : Type 0} {holds : W → Option (List ℕ)} {target₀ target : Target W R} {sink₀ : Sink} {text : List ℕ} {run : Progress} {out : List ℕ}
-    {end : Ended} {r : Ran} {out' : List ℕ} → Kept holds target₀ sink₀ text run out target → Finished run end out r out' → (r.ended ≡ NotWritten → ⊥) → r.sink ≡ hand_over (length (text ++ end_text end run.card)) sink₀
-all_handed {sink₀ = sink₀} {text = text} {run = run} {out = out} {end = end} k f z =
+all_handed : {W R : Type 0} {holds : W → Option (List ℕ)} {target₀ target : Target W R} {sink₀ : Sink} {text : List ℕ} {run : Progress} {sink : Sink}
+    {out : Text} {end r : Ending} {sink' : Sink} {out' : Text} → Kept holds target₀ sink₀ text sink out target
+    → Finished run sink end out r sink' out' → Written r → sink' ≡ hand_over (length (text ++ end_text end run.card)) sink₀
+all_handed {sink₀ = sink₀} {text = text} {run = run} {sink = sink} {out = out} {end = end} k f z =
     let e = end_text end run.card in
     let room = k.room in
-    let a : length text ≡ length k.over + run.at =
-    ap length k.split ∙ length-append k.over (take run.at out) ∙ ap (λ (n : ℕ). length k.over + n) (length-take-le run.at out (omega (arith, k.room.0, k.room.1))) in
+    let a : length text ≡ length k.over + out.at =
+    ap length k.split ∙ length-append k.over (take out.at out.buf.now)
+    ∙ ap (λ (n : ℕ). length k.over + n) (length-take-le out.at out.buf.now (omega (arith, k.room.0, k.room.1))) in
     let b = length-append text e in
-    let i : length k.over + (run.at + length e) ≡ length (text ++ e) = omega arith in
-    f.is.sink z ∙ ap (λ (n : ℕ). hand_over n run.sink) f.put.place ∙ k.sink (run.at + length e) ∙ ap (λ (j : ℕ). hand_over j sink₀) i
+    let i : length k.over + (out.at + length e) ≡ length (text ++ e) = omega arith in
+    f.is.sink z ∙ ap (λ (n : ℕ). hand_over n sink) f.put.place ∙ k.counts (out.at + length e) ∙ ap (λ (j : ℕ). hand_over j sink₀) i
 
 -- and written
-all_wrote : {W R : Type 0} {holds : W → Option (List ℕ)} {target₀ target : Target W R} {sink₀ : Sink} {text : List ℕ} {run : Progress}
-    {out : List ℕ} {end : Ended} {r : Ran} {out' : List ℕ} (target' : Target W R) → Kept holds target₀ sink₀ text run out target → Finished run end out r out'
-    → Gone holds target (ended_at run end) out' r target' → (r.ended ≡ NotWritten → ⊥) → Wrote holds target₀ target' (text ++ end_text end run.card)
+all_wrote : {W R : Type 0} {holds : W → Option (List ℕ)} {target₀ target : Target W R} {sink₀ : Sink} {text : List ℕ} {run : Progress} {sink : Sink}
+    {out : Text} {end r : Ending} {sink' : Sink} {out' : Text} (target' : Target W R) → Kept holds target₀ sink₀ text sink out target
+    → Finished run sink end out r sink' out' → Gone holds target (ended_at run out end) out'.buf.now r target' → Written r
+    → Wrote holds target₀ target' (text ++ end_text end run.card)
 all_wrote {holds = holds} {target₀ = target₀} {target = target} {text = text} {run = run} {out = out} {end = end} {out' = out'} target' k f g z =
     let e = end_text end run.card in
     let p = f.put in
-    let h : run.at + length e ≤ length out = let a = p.within in let b = p.place in omega arith in
-    let last : take (run.at + length e) out' ≡ take run.at out ++ e = ap (λ (l : List ℕ). take (run.at + length e) l) p.is ∙ take_put e out run.at h in
-    let all : text ++ e ≡ k.over ++ take (run.at + length e) out' =
-    ap (λ (l : List ℕ). l ++ e) k.split ∙ append_assoc k.over (take run.at out) e ∙ ap (λ (l : List ℕ). k.over ++ l) (sym last) in
-    rw all (wrote_on holds target₀ target target' k.over (take (run.at + length e) out') k.wrote (g z))
+    let h : out.at + length e ≤ length out.buf.now = let a = p.within in let b = p.place in omega arith in
+    let last : take (out.at + length e) out'.buf.now ≡ take out.at out.buf.now ++ e =
+    ap (λ (l : List ℕ). take (out.at + length e) l) p.is ∙ take_put e out.buf.now out.at h in
+    let all : text ++ e ≡ k.over ++ take (out.at + length e) out'.buf.now =
+    ap (λ (l : List ℕ). l ++ e) k.split ∙ append_assoc k.over (take out.at out.buf.now) e ∙ ap (λ (l : List ℕ). k.over ++ l) (sym last) in
+    rw all (wrote_on holds target₀ target target' k.over (take (out.at + length e) out'.buf.now) k.wrote (g z))
 
 -- ---- the loop
 
@@ -204,7 +196,7 @@ goes_on (Event n) e = omega arith
 goes_on Nothing e = omega arith
 
 -- the output of lines unfolds by one turn
-module _ (l : Line) (n : ℕ) (w : Want) (x : Card) (line : List ℕ) (more : List (List ℕ)) where
+module _ (l : Answer) (n : ℕ) (w : Want) (x : Card) (line : List ℕ) (more : List (List ℕ)) where
   pub one_more : failed (step_of w x line).want ≡ false
       → output_from l n w x (line ∷ more) ≡ (step_of w x line).text ++ output_from l (wrapped (n + 1)) (step_of w x line).want (step_of w x line).card more
   unfolding output_from
@@ -219,15 +211,15 @@ module _ (l : Line) (n : ℕ) (w : Want) (x : Card) (line : List ℕ) (more : Li
   unfolding ending_from
   ends_later e = rw e refl
 
-  pub ends_here : failed (step_of w x line).want ≡ true → ending_from l n w x (line ∷ more) ≡ BadLine n
+  pub ends_here : failed (step_of w x line).want ≡ true → ending_from l n w x (line ∷ more) ≡ Err (BadLine n)
   unfolding ending_from
   ends_here e = rw e refl
 
-pub no_more : (l : Line) (n : ℕ) (w : Want) (x : Card) → output_from l n w x [] ≡ end_text (end_of l w n) x
+pub no_more : (l : Answer) (n : ℕ) (w : Want) (x : Card) → output_from l n w x [] ≡ end_text (end_of l w n) x
 unfolding output_from
 no_more l n w x = refl
 
-pub ends_so : (l : Line) (n : ℕ) (w : Want) (x : Card) → ending_from l n w x [] ≡ end_of l w n
+pub ends_so : (l : Answer) (n : ℕ) (w : Want) (x : Card) → ending_from l n w x [] ≡ end_of l w n
 unfolding ending_from
 ends_so l n w x = refl
 
@@ -237,7 +229,7 @@ unfolding step_of said_in
 long_step w x line h = rw (lt-ltb 4096 (length line) h) (refl, refl)
 
 pub long_line : (left : Reader) (n : ℕ) (w : Want) (x : Card) (line : List ℕ) (lines : List (List ℕ)) → 4096 < length line
-    → output_from (Long left) n w x lines ≡ output_from End n w x (lines ++ (line ∷ []))
+    → output_from (Ok (Long left)) n w x lines ≡ output_from (Ok End) n w x (lines ++ (line ∷ []))
 unfolding output_from
 long_line left n w x line [] h = let s = long_step w x line h in rw (s.0, s.1) refl
 long_line left n w x line (first ∷ lines) h =
@@ -245,46 +237,46 @@ long_line left n w x line (first ∷ lines) h =
     (long_line left (wrapped (n + 1)) (step_of w x first).want (step_of w x first).card line lines h)
 
 pub record Under {W R : Type 0} (holds : W → Option (List ℕ)) (target₀ : Target W R) (buf₀ : List ℕ) (sink₀ : Sink) (buf : List ℕ) (r : Reader)
-    (run : Progress) (out : List ℕ) (target : Target W R) : Type 0 where
+    (run : Progress) (sink : Sink) (out : Text) (target : Target W R) : Type 0 where
   pub lines : List (List ℕ)
   pub text : List ℕ
   pub came : Came buf₀ lines buf r
   pub same : length buf ≡ length buf₀
   pub fits : Fits buf r
-  pub kept : Kept holds target₀ sink₀ text run out target
+  pub kept : Kept holds target₀ sink₀ text sink out target
   pub alive : 0 < rank run.want
-  pub output : (l : Line) (more : List (List ℕ)) → output_after l (lines ++ more) ≡ text ++ output_from l run.number run.want run.card more
-  pub ending : (l : Line) (more : List (List ℕ)) → ending_after l (lines ++ more) ≡ ending_from l run.number run.want run.card more
+  pub output : (l : Answer) (more : List (List ℕ)) → output_after l (lines ++ more) ≡ text ++ output_from l run.number run.want run.card more
+  pub ending : (l : Answer) (more : List (List ℕ)) → ending_after l (lines ++ more) ≡ ending_from l run.number run.want run.card more
 
-starts : {W R : Type 0} (holds : W → Option (List ℕ)) (target : Target W R) (buf : List ℕ) (sink : Sink) (out : List ℕ) → 4096 < length buf
-    → 65536 ≤ length out → Under holds target buf sink buf (reader 0 0) (begun_run sink) out target
-starts holds target buf sink out h k = record {
+starts : {W R : Type 0} (holds : W → Option (List ℕ)) (target : Target W R) (buf : List ℕ) (sink : Sink) (out : Text) → out.at ≡ 0 → 4096 < length buf
+    → 65536 ≤ length out.buf.now → Under holds target buf sink buf (reader 0 0) begun_run sink out target
+starts holds target buf sink out e h k = record {
   lines = [];
   text = [];
   came = none;
   same = refl;
   fits = (omega arith, omega arith, h);
-  kept = record { over = []; wrote = wrote_none holds target; split = refl; sink = λ n. let i : n ≡ 0 + n = omega arith in ap (λ (j : ℕ). hand_over j sink) i; room = (omega arith, k) };
+  kept = record { over = []; wrote = wrote_none holds target; split = ap (λ (n : ℕ). take n out.buf.now) (sym e); counts = λ n. let i : n ≡ 0 + n = omega arith in ap (λ (j : ℕ). hand_over j sink) i; room = (omega (arith, e), k) };
   alive = omega arith;
   output = λ l more. refl;
   ending = λ l more. refl;
 }
 
-pub starts_at : {W R : Type 0} {holds : W → Option (List ℕ)} {target : Target W R} {buf : List ℕ} {sink : Sink} {run : Progress} {out : List ℕ}
-    → run ≡ begun_run sink → 4096 < length buf → 65536 ≤ length out → Under holds target buf run.sink buf (reader 0 0) run out target
-starts_at {holds = holds} {target = target} {buf = buf} {sink = sink} {out = out} e h k =
-    subst (λ (p : Progress). Under holds target buf p.sink buf (reader 0 0) p out target) (sym e) (starts holds target buf sink out h k)
+pub starts_at : {W R : Type 0} {holds : W → Option (List ℕ)} {target : Target W R} {buf : List ℕ} {sink : Sink} {run : Progress} {out : Text}
+    → run ≡ begun_run → out.at ≡ 0 → 4096 < length buf → 65536 ≤ length out.buf.now → Under holds target buf sink buf (reader 0 0) run sink out target
+starts_at {holds = holds} {target = target} {buf = buf} {sink = sink} {out = out} e a h k =
+    subst (λ (p : Progress). Under holds target buf sink buf (reader 0 0) p sink out target) (sym e) (starts holds target buf sink out a h k)
 
 module _ {W R : Type 0} {holds : W → Option (List ℕ)} {target₀ target : Target W R} {buf₀ : List ℕ} {sink₀ : Sink} {buf : List ℕ} {r : Reader}
-    {run : Progress} {out : List ℕ} (u : Under holds target₀ buf₀ sink₀ buf r run out target) where
+    {run : Progress} {sink : Sink} {out : Text} (u : Under holds target₀ buf₀ sink₀ buf r run sink out target) where
   -- no line is left, or it is too long or was not read
-  pub over_by : {l : Line} {buf' : List ℕ} {end : Ended} {out' : List ℕ} {ran : Ran} (target' : Target W R) → Next buf r l buf' → NoLine l
-      → end ≡ end_of l run.want run.number → Finished run end out ran out' → Gone holds target (ended_at run end) out' ran target'
-      → RunTo holds target₀ buf₀ sink₀ ran buf' target'
+  pub over_by : {l : Answer} {buf' : List ℕ} {end : Ending} {out' : Text} {ran : Ending} {sink' : Sink} (target' : Target W R) → Next buf r l buf'
+      → NoLine l → end ≡ end_of l run.want run.number → Finished run sink end out ran sink' out' → Gone holds target (ended_at run out end) out'.buf.now ran target'
+      → RunTo holds target₀ buf₀ sink₀ ran sink' buf' target'
   over_by {l = l} {end = end} target' n y e f g =
       let q = append-nil u.lines in
       let o = u.output l [] ∙ ap (λ (s : List ℕ). u.text ++ s) (no_more l run.number run.want run.card) in
-      let all = ap (λ (d : Ended). u.text ++ end_text d run.card) e ∙ sym o ∙ ap (output_after l) q in
+      let all = ap (λ (d : Ending). u.text ++ end_text d run.card) e ∙ sym o ∙ ap (output_after l) q in
       record {
         lines = u.lines;
         last = l;
@@ -295,42 +287,42 @@ module _ {W R : Type 0} {holds : W → Option (List ℕ)} {target₀ target : Ta
         wrote = λ z. rw (← all) (all_wrote target' u.kept f g z);
       }
 
-  module _ (from to : ℕ) (left : Reader) {l : Line} {buf' : List ℕ} (n : Next buf r l buf') (e : l ≡ At from to left) where
-    it : Next buf r (At from to left) buf'
+  module _ (from to : ℕ) (left : Reader) {l : Answer} {buf' : List ℕ} (n : Next buf r l buf') (e : l ≡ Ok (At from to left)) where
+    it : Next buf r (Ok (At from to left)) buf'
     it = rw e at n
 
     -- the line lies in the buffer
     pub line_held : Held buf' from to left
     line_held = held from to left (n.line u.fits) u.fits e
 
-    module _ {next : Progress} {out' : List ℕ} {target' : Target W R} (t : Turned run (bytes buf' from to) out next out')
-        (w : Handed holds target (turned_at run (bytes buf' from to)) out' next.ok target') where
-      abbrev line : List ℕ
-      line = bytes buf' from to
+    abbrev line : List ℕ
+    line = bytes buf' from to
 
-      abbrev lines' : List (List ℕ)
-      lines' = u.lines ++ (line ∷ [])
+    abbrev lines' : List (List ℕ)
+    lines' = u.lines ++ (line ∷ [])
 
-      came' : Came buf₀ lines' buf' left
-      came' = another u.came it
+    came' : Came buf₀ lines' buf' left
+    came' = another u.came it
 
-      pub not_written : {ran : Ran} → ran.ended ≡ NotWritten → RunTo holds target₀ buf₀ sink₀ ran buf' target'
-      not_written y = record {
-        lines = lines';
-        last = At from to left;
-        over = enough came';
-        same = n.same ∙ u.same;
-        ended = λ z. absurd (z y);
-        handed = λ z. absurd (z y);
-        wrote = λ z. absurd (z y);
-      }
+    pub not_written : {ran : Ending} {sink' : Sink} {target' : Target W R} → ran ≡ Err Unwritten → RunTo holds target₀ buf₀ sink₀ ran sink' buf' target'
+    not_written y = record {
+      lines = lines';
+      last = Ok (At from to left);
+      over = enough came';
+      same = n.same ∙ u.same;
+      ended = λ z. absurd (z y);
+      handed = λ z. absurd (z y);
+      wrote = λ z. absurd (z y);
+    }
 
-      pub bad_line_lem : {out'' : List ℕ} {ran : Ran} (target'' : Target W R) → next.ok ≡ true → failed next.want ≡ true
-          → Finished next (BadLine run.number) out' ran out'' → Gone holds target' (ended_at next (BadLine run.number)) out'' ran target''
-          → RunTo holds target₀ buf₀ sink₀ ran buf' target''
-      bad_line_lem target'' o b f g =
-          let l = At from to left in
-          let y : failed (step_of run.want run.card line).want ≡ true = ap failed (sym t.want) ∙ b in
+    module _ {next : Progress} {sink' : Sink} {out' : Text} {target' : Target W R} (t : Turned run sink (bytes buf' from to) out (Ok next) sink' out')
+        (w : Handed holds target (turned_at run out (bytes buf' from to)) out'.buf.now (Ok next) target') where
+      pub bad_line_lem : {out'' : Text} {ran : Ending} {sink'' : Sink} (target'' : Target W R) → failed next.want ≡ true
+          → Finished next sink' (Err (BadLine run.number)) out' ran sink'' out''
+          → Gone holds target' (ended_at next out' (Err (BadLine run.number))) out''.buf.now ran target'' → RunTo holds target₀ buf₀ sink₀ ran sink'' buf' target''
+      bad_line_lem target'' b f g =
+          let l : Answer = Ok (At from to left) in
+          let y : failed (step_of run.want run.card line).want ≡ true = ap failed (sym t.next.want) ∙ b in
           let prints = u.output l (line ∷ []) ∙ ap (λ (s : List ℕ). u.text ++ s) (one_bad l run.number run.want run.card line [] y)
           ∙ sym (append_assoc u.text (said run line) (bad_line run.number)) in
           record {
@@ -339,31 +331,31 @@ module _ {W R : Type 0} {holds : W → Option (List ℕ)} {target₀ target : Ta
             over = enough came';
             same = n.same ∙ u.same;
             ended = λ z. f.is.ended z ∙ sym (ends_here l run.number run.want run.card line [] y) ∙ sym (u.ending l (line ∷ []));
-            handed = λ z. all_handed (kept_on u.kept t w o) f z ∙ ap (λ (s : List ℕ). hand_over (length s) sink₀) (sym prints);
-            wrote = λ z. rw prints (all_wrote target'' (kept_on u.kept t w o) f g z);
+            handed = λ z. all_handed (kept_on u.kept t w) f z ∙ ap (λ (s : List ℕ). hand_over (length s) sink₀) (sym prints);
+            wrote = λ z. rw prints (all_wrote target'' (kept_on u.kept t w) f g z);
           }
 
-      abbrev later : Line → List (List ℕ) → List ℕ
+      abbrev later : Answer → List (List ℕ) → List ℕ
       later l more = output_from l (wrapped (run.number + 1)) (step_of run.want run.card line).want (step_of run.want run.card line).card more
 
-      goes : (l : Line) (more : List (List ℕ)) → later l more ≡ output_from l next.number next.want next.card more
-      goes l more = rw (t.number, t.want, t.card) refl
+      goes : (l : Answer) (more : List (List ℕ)) → later l more ≡ output_from l next.number next.want next.card more
+      goes l more = rw (t.next.number, t.next.want, t.next.card) refl
 
-      ends_on : (l : Line) (more : List (List ℕ))
+      ends_on : (l : Answer) (more : List (List ℕ))
           → ending_from l (wrapped (run.number + 1)) (step_of run.want run.card line).want (step_of run.want run.card line).card more
           ≡ ending_from l next.number next.want next.card more
-      ends_on l more = rw (t.number, t.want, t.card) refl
+      ends_on l more = rw (t.next.number, t.next.want, t.next.card) refl
 
-      pub turned_on : next.ok ≡ true → failed next.want ≡ false → Under holds target₀ buf₀ sink₀ buf' left next out' target'
-      turned_on o b =
-          let y : failed (step_of run.want run.card line).want ≡ false = ap failed (sym t.want) ∙ b in
+      pub turned_on : failed next.want ≡ false → Under holds target₀ buf₀ sink₀ buf' left next sink' out' target'
+      turned_on b =
+          let y : failed (step_of run.want run.card line).want ≡ false = ap failed (sym t.next.want) ∙ b in
           record {
             lines = lines';
             text = u.text ++ said run line;
             came = came';
             same = n.same ∙ u.same;
             fits = line_held.fits;
-            kept = kept_on u.kept t w o;
+            kept = kept_on u.kept t w;
             alive = goes_on next.want b;
             output = λ l more.
                 ap (output_after l) (append_assoc u.lines (line ∷ []) more) ∙ u.output l (line ∷ more)

@@ -5,14 +5,16 @@
 ghost use Rattle.std.specs.Prelude.{◌≡◌, ◌<◌, ◌≤◌, length};
 ghost use Rattle.streams.specs.Writing.{is_written};
 ghost use Rattle.runner.specs.OutputRules.{failed, complete, end_of, end_text};
-ghost use Rattle.runner.specs.RunRules.{begun_run, Room, Whole, FlushedTo, Handed, Turned, Ends, Finished, Gone, turned_at, ended_at, RunTo, RunOf};
+ghost use Rattle.runner.specs.RunRules.{begun_run, Room, AddsWhole, FlushedTo, Handed, Turned, Ends, Finished, Gone, turned_at, ended_at, RunTo, RunOf, unwritten};
 
 use report::answer;
 use script::card::Card;
 use script::reading::Want;
+use std::fmt;
 use std::io::{Read, Write};
 use streams::reader::{Line, Reader, next_line};
-use streams::sink::{Sink, Target, done, emit};
+use streams::sink::{NotWritten, Sink, Target, done};
+use text::print::Text;
 
 // What is printed is gathered up to here before it is handed over.
 const GATHERED: usize = 57344;
@@ -23,11 +25,9 @@ const OUTPUT: usize = 65536;
 // A block of 64 KiB, after a part of a line.
 const INPUT: usize = 69632;
 
-// How a run ends.
-#[derive(Clone, Copy)]
-pub enum Ended {
-    // all events came, and the state was listed
-    Listed,
+// Why a run ended before the state was listed.
+#[derive(Clone, Copy, Debug)]
+pub enum RunError {
     // this line is bad, or missing
     BadLine(u64),
     // a read failed
@@ -36,252 +36,202 @@ pub enum Ended {
     NotWritten,
 }
 
-// How a run ended, and the sink after it.
-#[derive(Clone, Copy)]
-pub struct Ran {
-    pub ended: Ended,
-    pub sink: Sink,
+impl fmt::Display for RunError {
+    fn fmt<W: fmt::Write>(&self, f: &mut fmt::Formatter<W>) -> fmt::Result {
+        match self {
+            RunError::BadLine(number) => write!(f, "bad line {number}"),
+            RunError::NotRead => write!(f, "the input could not be read"),
+            RunError::NotWritten => write!(f, "the output could not be written"),
+        }
+    }
 }
 
-// What goes from line to line: the number of the next one and what is wanted there, the state, the place after what is gathered,
-// and the sink. `ok`: the output went well so far.
+impl From<NotWritten> for RunError {
+    ghost from_gives = { λ _ e. e ≡ unwritten };
+
+    fn from(_e: NotWritten) -> RunError {
+        RunError::NotWritten
+    }
+}
+
+// What goes from line to line: the number of the next one and what is wanted there, and the state.
 #[derive(Clone, Copy)]
 struct Progress {
     number: u64,
     want: Want,
     card: Card,
-    at: usize,
-    sink: Sink,
-    ok: bool,
 }
 
 fn is_failed(want: Want) -> bool
     ensures { result ≡ failed want }
 {
-    match want {
-        Want::Failed => true,
-        Want::Mac => false,
-        Want::Addresses => false,
-        Want::Address(_) => false,
-        Want::Events => false,
-        Want::Event(_) => false,
-        Want::Nothing => false,
-    }
+    matches!(want, Want::Failed)
 }
 
-fn is_nothing(want: Want) -> bool
+fn is_complete(want: Want) -> bool
     ensures { result ≡ complete want }
 {
-    match want {
-        Want::Nothing => true,
-        Want::Mac => false,
-        Want::Addresses => false,
-        Want::Address(_) => false,
-        Want::Events => false,
-        Want::Event(_) => false,
-        Want::Failed => false,
-    }
-}
-
-// Whether the output went well, the place after what is still gathered, and the sink.
-#[derive(Clone, Copy)]
-struct Flush {
-    ok: bool,
-    at: usize,
-    sink: Sink,
+    matches!(want, Want::Nothing)
 }
 
 // Hands over what is gathered, where that is much.
-fn flushed<W: Write, R: Read>(sink: Sink, target: &mut Target<W, R>, out: &[u8], at: usize) -> Flush
-    requires { at ≤ length out.now }
-    ensures flushed { FlushedTo sink at result }
+fn flush<W: Write, R: Read>(
+    sink: &mut Sink,
+    target: &mut Target<W, R>,
+    out: &mut Text,
+) -> Result<(), NotWritten>
+    requires { out.old.at ≤ length out.old.buf.now }
+    ensures flushed { FlushedTo sink.old out.old result sink.new out.new }
     ensures kind { is_written target.new ≡ is_written target.old }
-    ensures handed { Handed W.contents target.old at out.now result.ok target.new }
+    ensures handed { Handed W.contents target.old out.old.at out.old.buf.now result target.new }
 {
-    if at < GATHERED {
-        return Flush { ok: true, at, sink };
+    if out.at >= GATHERED {
+        sink.emit(target, out.as_bytes())?;
+        out.clear();
     }
-    let emitted = emit(sink, target, &out[..at]);
-    let after = emitted.sink;
-    Flush {
-        ok: emitted.ok,
-        at: 0,
-        sink: after,
-    }
+    Ok(())
 }
 
 // Before the first line.
-fn begun(sink: Sink) -> Progress
-    ensures { result ≡ begun_run sink }
+fn begun() -> Progress
+    ensures { result ≡ begun_run }
 {
-    let card = Card::new();
     Progress {
         number: 1,
         want: Want::Mac,
-        card,
-        at: 0,
-        sink,
-        ok: true,
+        card: Card::new(),
     }
 }
 
 // One line is carried out, and what it printed is gathered or handed over.
 fn turn<W: Write, R: Read>(
     run: Progress,
+    sink: &mut Sink,
     target: &mut Target<W, R>,
     line: &[u8],
-    out: &mut [u8],
-) -> Progress
-    requires { Room run.at out.old }
-    ensures turned { Turned run line.now out.old result out.new }
+    out: &mut Text,
+) -> Result<Progress, NotWritten>
+    requires { Room out.old }
+    ensures turned { Turned run sink.old line.now out.old result sink.new out.new }
     ensures kind { is_written target.new ≡ is_written target.old }
-    ensures handed { Handed W.contents target.old (turned_at run line.now) out.new result.ok target.new }
+    ensures handed { Handed W.contents target.old (turned_at run out.old line.now) out.new.buf.now result target.new }
 {
-    let card = run.card;
-    let want = run.want;
-    let sink = run.sink;
-    let after = card.step(want, line, out, run.at);
-    let flush = flushed(sink, target, out, after.at);
-    let number = run.number.wrapping_add(1);
-    let next_want = after.want;
-    let next_card = after.card;
-    let next_sink = flush.sink;
-    Progress {
-        number,
-        want: next_want,
-        card: next_card,
-        at: flush.at,
-        sink: next_sink,
-        ok: flush.ok,
-    }
+    let after = run.card.step(run.want, line, out);
+    flush(sink, target, out)?;
+    Ok(Progress {
+        number: run.number.wrapping_add(1),
+        want: after.want,
+        card: after.card,
+    })
 }
 
 // How the run ends where the reader has no line: with the state after the last event, or with a line that is missing or too
-// long, or that was not read.
-fn end_of(line: Line, want: Want, number: u64) -> Ended
-    ensures { result ≡ end_of line want number }
+// long.
+fn end_of(line: Line, want: Want, number: u64) -> Result<(), RunError>
+    ensures { result ≡ end_of (Ok line) want number }
 {
     match line {
-        Line::End => {
-            if is_nothing(want) {
-                Ended::Listed
-            } else {
-                Ended::BadLine(number)
-            }
-        }
-        Line::Long(_) => Ended::BadLine(number),
-        Line::Error => Ended::NotRead,
-        Line::At(_, _, _) => Ended::NotWritten,
+        Line::End if is_complete(want) => Ok(()),
+        Line::End | Line::Long(_) => Err(RunError::BadLine(number)),
+        Line::At(..) => Err(RunError::NotWritten),
     }
 }
 
 // The end of the output.
-fn put_end(end: Ended, card: Card, out: &mut [u8], at: usize) -> usize
-    requires { Room at out.old }
-    ensures { Whole (end_text end card) out.old at result out.new }
+fn put_end(end: Result<(), RunError>, card: Card, out: &mut Text)
+    requires { Room out.old }
+    ensures { AddsWhole (end_text end card) out.old out.new }
 {
     match end {
-        Ended::Listed => card.list(out, at),
-        Ended::BadLine(number) => answer::bad_line(out, at, number),
-        Ended::NotRead => at,
-        Ended::NotWritten => at,
+        Ok(()) => card.list(out),
+        Err(RunError::BadLine(number)) => answer::bad_line(out, number),
+        // two arms: under one pattern for both the proof has no equation for `end`
+        Err(RunError::NotRead) => {}
+        Err(RunError::NotWritten) => {}
     }
 }
 
 // Hands over what is gathered. Nothing may follow it.
 fn last<W: Write, R: Read>(
-    sink: Sink,
+    sink: &mut Sink,
     target: &mut Target<W, R>,
-    end: Ended,
-    out: &[u8],
-    at: usize,
-) -> Ran
-    requires { at ≤ length out.now }
-    ensures ends { Ends end at sink result }
+    end: Result<(), RunError>,
+    out: &Text,
+) -> Result<(), RunError>
+    requires { out.now.at ≤ length out.now.buf.now }
+    ensures ends { Ends end out.now.at sink.old result sink.new }
     ensures kind { is_written target.new ≡ is_written target.old }
-    ensures gone { Gone W.contents target.old at out.now result target.new }
+    ensures gone { Gone W.contents target.old out.now.at out.now.buf.now result target.new }
 {
-    let handed = emit(sink, target, &out[..at]);
-    let after = handed.sink;
-    if !handed.ok {
-        return Ran {
-            ended: Ended::NotWritten,
-            sink: after,
-        };
-    }
-    if !done(target) {
-        return Ran {
-            ended: Ended::NotWritten,
-            sink: after,
-        };
-    }
-    Ran {
-        ended: end,
-        sink: after,
+    sink.emit(target, out.as_bytes())?;
+    if done(target) {
+        end
+    } else {
+        Err(RunError::NotWritten)
     }
 }
 
 fn finish<W: Write, R: Read>(
     run: Progress,
+    sink: &mut Sink,
     target: &mut Target<W, R>,
-    end: Ended,
-    out: &mut [u8],
-) -> Ran
-    requires { Room run.at out.old }
-    ensures finished { Finished run end out.old result out.new }
+    end: Result<(), RunError>,
+    out: &mut Text,
+) -> Result<(), RunError>
+    requires { Room out.old }
+    ensures finished { Finished run sink.old end out.old result sink.new out.new }
     ensures kind { is_written target.new ≡ is_written target.old }
-    ensures gone { Gone W.contents target.old (ended_at run end) out.new result target.new }
+    ensures gone { Gone W.contents target.old (ended_at run out.old end) out.new.buf.now result target.new }
 {
-    let card = run.card;
-    let sink = run.sink;
-    let at = put_end(end, card, out, run.at);
-    last(sink, target, end, out, at)
+    put_end(end, run.card, out);
+    last(sink, target, end, out)
 }
 
-// Line by line, with a buffer for the input and one for the output.
+// Line by line, with a buffer for the input and a text for the output.
 fn run_lines<I: Read, W: Write, R: Read>(
     input: &mut I,
     target: &mut Target<W, R>,
-    sink: Sink,
+    sink: &mut Sink,
     buf: &mut [u8],
-    out: &mut [u8],
-) -> Ran
-    requires { (4096 < length buf.old) × (65536 ≤ length out.old) }
-    ensures run { RunTo W.contents target.old buf.old sink result buf.new target.new }
+    out: &mut Text,
+) -> Result<(), RunError>
+    requires { (4096 < length buf.old) × (out.old.at ≡ 0) × (65536 ≤ length out.old.buf.now) }
+    ensures run { RunTo W.contents target.old buf.old sink.old result sink.new buf.new target.new }
     ensures kind { is_written target.new ≡ is_written target.old }
 {
-    let mut run = begun(sink);
+    let mut run = begun();
     let mut reader = Reader { start: 0, end: 0 };
     loop {
-        let line = next_line(input, buf, reader);
+        let Ok(line) = next_line(input, buf, reader) else {
+            return finish(run, sink, target, Err(RunError::NotRead), out);
+        };
         let Line::At(from, to, left) = line else {
-            let wanted = run.want;
-            let end = end_of(line, wanted, run.number);
-            return finish(run, target, end, out);
+            let end = end_of(line, run.want, run.number);
+            return finish(run, sink, target, end, out);
         };
         let number = run.number;
-        run = turn(run, target, &buf[from..to], out);
-        if !run.ok {
-            let after = run.sink;
-            return Ran {
-                ended: Ended::NotWritten,
-                sink: after,
-            };
-        }
-        let want = run.want;
-        if is_failed(want) {
-            return finish(run, target, Ended::BadLine(number), out);
+        run = turn(run, sink, target, &buf[from..to], out)?;
+        if is_failed(run.want) {
+            return finish(run, sink, target, Err(RunError::BadLine(number)), out);
         }
         reader = left;
     }
 }
 
 // Runs the events of input, and answers how that ended.
-pub fn run<I: Read, W: Write, R: Read>(input: &mut I, target: &mut Target<W, R>, sink: Sink) -> Ran
-    ensures run { RunOf W.contents target.old sink result target.new }
+pub fn run<I: Read, W: Write, R: Read>(
+    input: &mut I,
+    target: &mut Target<W, R>,
+    sink: &mut Sink,
+) -> Result<(), RunError>
+    ensures run { RunOf W.contents target.old sink.old result sink.new target.new }
     ensures kind { is_written target.new ≡ is_written target.old }
 {
     let mut buf = [0u8; INPUT];
     let mut out = [0u8; OUTPUT];
-    run_lines(input, target, sink, &mut buf, &mut out)
+    let mut text = Text {
+        buf: &mut out,
+        at: 0,
+    };
+    run_lines(input, target, sink, &mut buf, &mut text)
 }

@@ -4,7 +4,9 @@ use Rattle.time.specs.declared.Instant.{Instant}
 use Rattle.time.specs.ClockRules.{idle}
 use Rattle.wire.specs.declared.ipv6.Ipv6Addr.{Ipv6Addr}
 use Rattle.wire.specs.declared.ethernet.HardwareAddress.{HardwareAddress}
+use Rattle.text.specs.Gathered.{Adds}
 use Rattle.text.specs.Place.{Put}
+use Rattle.text.specs.declared.print.Text.{Text}
 use Rattle.lines.specs.EventLines.{message_len_is}
 use Rattle.lines.specs.declared.event.Event.{Event}
 use Rattle.lines.specs.declared.event.Event.TheVariants.{Up, Down, Poll, Sweep, Off, Ra, Start, Fill, Remove}
@@ -33,8 +35,6 @@ use Rattle.autoconf.specs.AdvertRules.{call_by}
 use Rattle.autoconf.specs.PollRules.{poll_by, poll_buffer}
 use Rattle.autoconf.specs.OffRules.{off_by}
 use Rattle.script.specs.declared.card.Card.{Card}
-use Rattle.script.specs.declared.card.Carried.{Carried}
-use Rattle.script.specs.declared.neighbors.Cached.{Cached}
 use Rattle.script.specs.PrintedRules.{poll_text, ra_text, change_text, sweep_text}
 
 -- an event's time, as the calls take it
@@ -68,10 +68,10 @@ sweep_cache c t = sweep_did t (sweep_by (sweep_check (idle (instant t)) 0) c (id
 unfoldable pub remove_cache : NeighborCache → Ipv6Addr → NeighborCache
 remove_cache c a = (remove_by (iface_check 0) c (key 0 a)).cache
 
--- the text was put at `at`
-pub record CachedTo (d : DidCache) (out : List ℕ) (at : ℕ) (r : Cached) (out' : List ℕ) : Type 0 where
-  pub cache : r.cache ≡ d.cache
-  pub put : Put out at d.text r.at out'
+-- the text was put behind what is gathered
+pub record CachedTo (d : DidCache) (out : Text) (r : NeighborCache) (out' : Text) : Type 0 where
+  pub cache : r ≡ d.cache
+  pub put : Adds out d.text out'
   pub short : length d.text ≤ event_most
 
 -- The state
@@ -157,9 +157,9 @@ message_for e buffer = take (message_len_is e) buffer
 abbrev pub Fits : ℕ → Event → Type 0
 Fits room e = message_len_is e ≤ room
 
-pub record CarriedTo (x : Did) (out : List ℕ) (at : ℕ) (r : Carried) (out' : List ℕ) : Type 0 where
-  pub card : r.card ≡ x.card
-  pub put : Put out at x.text r.at out'
+pub record CarriedTo (x : Did) (out : Text) (r : Card) (out' : Text) : Type 0 where
+  pub card : r ≡ x.card
+  pub put : Adds out x.text out'
   pub short : length x.text ≤ event_most
 
 -- "Then the state."
@@ -169,3 +169,7 @@ listed_text x = state_text (prefixes_of x.slaac) (routers_of x.slaac) (addrs_of 
 pub record Listed (x : Card) (out : List ℕ) (at r : ℕ) (out' : List ℕ) : Type 0 where
   pub put : Put out at (listed_text x) r out'
   pub short : length (listed_text x) ≤ state_most
+
+-- the same, behind what is gathered
+abbrev pub Lists : Card → Text → Text → Type 0
+Lists x t t' = Listed x t.buf.now t.at t'.at t'.buf.now

@@ -1,13 +1,13 @@
 -- Document 01, "The event program": what a line does. Assumes nothing.
-use Rattle.std.specs.Prelude.{ℕ, ◌≤◌, ◌<◌, ◌≡◌, List, [], length, take}
+use Rattle.wire.specs.declared.error.Refusal.{Refusal}
+use Rattle.std.specs.Prelude.{ℕ, ◌≤◌, ◌<◌, ◌≡◌, List, [], length, take, Option, Some, None, Result, Ok, Err}
 use Rattle.text.specs.Fields.{fields}
-use Rattle.text.specs.Place.{Put}
+use Rattle.text.specs.Gathered.{Adds}
+use Rattle.text.specs.declared.print.Text.{Text}
 use Rattle.lines.specs.EventLines.{parsed_bytes, message_len_is}
 use Rattle.report.specs.AnswerLines.{event_most}
 use Rattle.wire.specs.declared.ethernet.HardwareAddress.{HardwareAddress}
 use Rattle.wire.specs.declared.ipv6.Ipv6Cidr.{Ipv6Cidr}
-use Rattle.wire.specs.declared.error.Outcome.{Outcome}
-use Rattle.wire.specs.declared.error.Outcome.TheVariants.{Refused, Done}
 use Rattle.iface.specs.declared.addr.IfaceAddrs.{IfaceAddrs}
 use Rattle.iface.specs.declared.addr.Added.{Added}
 use Rattle.iface.specs.AddressRules.{addrs_of, addr_check, add_addr_by}
@@ -16,7 +16,7 @@ use Rattle.script.specs.declared.card.After.{After}
 use Rattle.script.specs.declared.reading.Want.{Want}
 use Rattle.script.specs.declared.reading.Want.TheVariants.{Addresses, Failed}
 use Rattle.script.specs.declared.reading.Said.{Said}
-use Rattle.script.specs.declared.reading.Said.TheVariants.{Bad, Mac, Next, Static, Event}
+use Rattle.script.specs.declared.reading.Said.TheVariants.{Mac, Next, Static, Event}
 use Rattle.script.specs.CardRules.{Did, card_of, carry_out}
 use Rattle.script.specs.ReadingRules.{said_in, rank}
 
@@ -40,9 +40,9 @@ abbrev pub with_addrs : Card → IfaceAddrs → Card
 with_addrs x t = card_of x.slaac t x.routes x.cache x.hardware_addr x.up
 
 -- "A bad line N (from 1; also one .. refused by the address table)"
-abbrev pub added_by : Card → Want → IfaceAddrs → Outcome → Went
-added_by x w t (Refused why) = bad_line x
-added_by x w t Done = quietly w (with_addrs x t)
+abbrev pub added_by : Card → Want → IfaceAddrs → Result (Unit {0}) Refusal → Went
+added_by x w t (Err why) = bad_line x
+added_by x w t (Ok tt) = quietly w (with_addrs x t)
 
 abbrev pub added : Card → Want → Added → Went
 added x w r = added_by x w r.addrs r.outcome
@@ -54,12 +54,12 @@ abbrev pub carried : Want → Did → Went
 carried w d = record { want = w; card = d.card; text = d.text }
 
 -- what a line said is done; an advertisement has its message
-abbrev pub apply_of : Card → Said → List ℕ → Went
-apply_of x Bad message = bad_line x
-apply_of x (Mac h) message = quietly Addresses (with_hardware x h)
-apply_of x (Next w) message = quietly w x
-apply_of x (Static c w) message = added_card x c w
-apply_of x (Event t e w) message = carried w (carry_out x t e message)
+abbrev pub apply_of : Card → Option Said → List ℕ → Went
+apply_of x None message = bad_line x
+apply_of x (Some (Mac h)) message = quietly Addresses (with_hardware x h)
+apply_of x (Some (Next w)) message = quietly w x
+apply_of x (Some (Static c w)) message = added_card x c w
+apply_of x (Some (Event t e w)) message = carried w (carry_out x t e message)
 
 -- there is room for the message of any line, of which two digits make a byte
 abbrev pub room : ℕ
@@ -69,38 +69,34 @@ unfoldable pub step_of : Want → Card → List ℕ → Went
 step_of w x line = apply_of x (said_in room w line) (parsed_bytes room (fields line))
 
 -- a line that prints nothing
-pub record Applied (g : Went) (at : ℕ) (r : After) : Type 0 where
+pub record Applied (g : Went) (r : After) : Type 0 where
   pub want : r.want ≡ g.want
   pub card : r.card ≡ g.card
   pub text : g.text ≡ []
-  pub place : r.at ≡ at
 
--- the text was put at `at`
-pub record Stepped (g : Went) (out : List ℕ) (at : ℕ) (r : After) (out' : List ℕ) : Type 0 where
+-- the text was put behind what is gathered
+pub record Stepped (g : Went) (out : Text) (r : After) (out' : Text) : Type 0 where
   pub want : r.want ≡ g.want
   pub card : r.card ≡ g.card
-  pub put : Put out at g.text r.at out'
+  pub put : Adds out g.text out'
   pub short : length g.text ≤ event_most
 
-abbrev pub applied : Card → Said → List ℕ → List ℕ → ℕ → After → List ℕ → Type 0
-applied x s message out at r out' = Stepped (apply_of x s message) out at r out'
-
 -- how many bytes of a message go with what a line said
-abbrev pub said_len : Said → ℕ
-said_len Bad = 0
-said_len (Mac h) = 0
-said_len (Next w) = 0
-said_len (Static c w) = 0
-said_len (Event t e w) = message_len_is e
+abbrev pub said_len : Option Said → ℕ
+said_len None = 0
+said_len (Some (Mac h)) = 0
+said_len (Some (Next w)) = 0
+said_len (Some (Static c w)) = 0
+said_len (Some (Event t e w)) = message_len_is e
 
 -- they stand at the front of the buffer
-abbrev pub message_in : Said → List ℕ → List ℕ
+abbrev pub message_in : Option Said → List ℕ → List ℕ
 message_in s buffer = take (said_len s) buffer
 
-abbrev pub FitsSaid : ℕ → Said → Type 0
+abbrev pub FitsSaid : ℕ → Option Said → Type 0
 FitsSaid n s = said_len s ≤ n
 
 -- one line: it does what the rules say, and fewer can still come
-pub record StepTo (w : Want) (x : Card) (line out : List ℕ) (at : ℕ) (r : After) (out' : List ℕ) : Type 0 where
-  pub is : Stepped (step_of w x line) out at r out'
+pub record StepTo (w : Want) (x : Card) (line : List ℕ) (out : Text) (r : After) (out' : Text) : Type 0 where
+  pub is : Stepped (step_of w x line) out r out'
   pub falls : 0 < rank w → rank r.want < rank w

@@ -1,48 +1,31 @@
-// The events on the neighbours.
+// The events on the neighbours. Each answers the neighbours after it.
 ghost use Rattle.std.specs.Prelude.{◌≡◌};
 ghost use Rattle.script.specs.CardRules.{CachedTo, start_cache, sweep_cache, fill_cache, remove_cache};
 
 use crate::printed;
 use neighbor::NeighborCache;
+use text::print::Text;
 use time::{Clock, Instant};
 use wire::ethernet::HardwareAddress;
 use wire::ipv6::Ipv6Addr;
 
-// The neighbours after an event, and the place after what it printed.
-#[derive(Clone, Copy)]
-pub struct Cached {
-    pub cache: NeighborCache,
-    pub at: usize,
-}
-
 // The program's interface.
 pub const IFACE: u8 = 0;
 
-pub fn start(cache: NeighborCache, time: u64, addr: Ipv6Addr, out: &mut [u8], at: usize) -> Cached
-    ensures { CachedTo (start_cache cache time addr) out.old at result out.new }
+pub fn start(cache: NeighborCache, time: u64, addr: Ipv6Addr, out: &mut Text) -> NeighborCache
+    ensures { CachedTo (start_cache cache time addr) out.old result out.new }
 {
     let left = cache.start_resolution(IFACE, addr);
-    let answer = left.outcome;
-    let next = printed::change(out, at, time, answer);
-    let after = left.cache;
-    Cached {
-        cache: after,
-        at: next,
-    }
+    printed::change(out, time, left.outcome);
+    left.cache
 }
 
-pub fn sweep(cache: NeighborCache, time: u64, out: &mut [u8], at: usize) -> Cached
-    ensures { CachedTo (sweep_cache cache time) out.old at result out.new }
+pub fn sweep(cache: NeighborCache, time: u64, out: &mut Text) -> NeighborCache
+    ensures { CachedTo (sweep_cache cache time) out.old result out.new }
 {
     let left = sweep::sweep_at(cache, Clock::new(Instant(time)), IFACE);
-    let answer = left.outcome;
-    let events = left.events;
-    let next = printed::sweep(out, at, time, answer, events);
-    let after = left.cache;
-    Cached {
-        cache: after,
-        at: next,
-    }
+    printed::sweep(out, time, left.outcome, left.events);
+    left.cache
 }
 
 pub fn fill(
@@ -50,26 +33,18 @@ pub fn fill(
     time: u64,
     addr: Ipv6Addr,
     hardware_addr: HardwareAddress,
-    out: &mut [u8],
-    at: usize,
-) -> Cached
-    ensures { CachedTo (fill_cache cache time addr hardware_addr) out.old at result out.new }
+    out: &mut Text,
+) -> NeighborCache
+    ensures { CachedTo (fill_cache cache time addr hardware_addr) out.old result out.new }
 {
     let left = cache.fill(IFACE, addr, hardware_addr, Instant(time));
-    let answer = left.outcome;
-    let next = printed::change(out, at, time, answer);
-    let after = left.cache;
-    Cached {
-        cache: after,
-        at: next,
-    }
+    printed::change(out, time, left.outcome);
+    left.cache
 }
 
 // An absent neighbour is none to remove. Nothing is printed.
-pub fn remove(cache: NeighborCache, addr: Ipv6Addr, at: usize) -> Cached
-    ensures { (result.cache ≡ remove_cache cache addr) × (result.at ≡ at) }
+pub fn remove(cache: NeighborCache, addr: Ipv6Addr) -> NeighborCache
+    ensures { result ≡ remove_cache cache addr }
 {
-    let left = cache.remove(IFACE, addr);
-    let after = left.cache;
-    Cached { cache: after, at }
+    cache.remove(IFACE, addr).cache
 }

@@ -1,49 +1,50 @@
 // What the answer of a call prints: `refused` with a number, `off`, `solicit` with the message, the events of a sweep, or nothing.
-ghost use Rattle.report.specs.AnswerLines.{Printed, event_most};
-ghost use Rattle.text.specs.Place.{Put};
+ghost use Rattle.text.specs.Gathered.{Adds};
+ghost use Rattle.report.specs.AnswerLines.{Prints, event_most};
 ghost use Rattle.script.specs.PrintedRules.{poll_text, ra_text, change_text, sweep_text};
 
 use autoconf::{AdvertAnswer, PollAnswer};
 use report::answer;
 use sweep::Events;
-use wire::error::Outcome;
+use text::print::Text;
+use wire::error::Refusal;
 
-pub fn poll(out: &mut [u8], at: usize, time: u64, answered: PollAnswer, message: &[u8]) -> usize
-    ensures { Put out.old at (poll_text time answered message.now) result out.new }
+pub fn poll(out: &mut Text, time: u64, answered: Result<PollAnswer, Refusal>, message: &[u8])
+    ensures { Adds out.old (poll_text time answered message.now) out.new }
 {
     match answered {
-        PollAnswer::Refused(why) => answer::refused(out, at, time, why.number()),
-        PollAnswer::Off => answer::off(out, at, time),
-        PollAnswer::Quiet => at,
-        PollAnswer::Solicited => answer::solicit(out, at, time, message),
-        PollAnswer::NoRoom => at,
+        Err(why) => answer::refused(out, time, why.number()),
+        Ok(PollAnswer::Off) => answer::off(out, time),
+        Ok(PollAnswer::Solicited) => answer::solicit(out, time, message),
+        // two arms: under one pattern for both the proof has no equation for `answered`
+        Ok(PollAnswer::Quiet) => {}
+        Ok(PollAnswer::NoRoom) => {}
     }
 }
 
-pub fn ra(out: &mut [u8], at: usize, time: u64, answered: AdvertAnswer) -> usize
-    ensures { Put out.old at (ra_text time answered) result out.new }
+pub fn ra(out: &mut Text, time: u64, answered: Result<AdvertAnswer, Refusal>)
+    ensures { Adds out.old (ra_text time answered) out.new }
 {
     match answered {
-        AdvertAnswer::Refused(why) => answer::refused(out, at, time, why.number()),
-        AdvertAnswer::Off => answer::off(out, at, time),
-        AdvertAnswer::Done => at,
+        Err(why) => answer::refused(out, time, why.number()),
+        Ok(AdvertAnswer::Off) => answer::off(out, time),
+        Ok(AdvertAnswer::Done) => {}
     }
 }
 
-pub fn change(out: &mut [u8], at: usize, time: u64, answered: Outcome) -> usize
-    ensures { Put out.old at (change_text time answered) result out.new }
+pub fn change(out: &mut Text, time: u64, answered: Result<(), Refusal>)
+    ensures { Adds out.old (change_text time answered) out.new }
 {
-    match answered {
-        Outcome::Refused(why) => answer::refused(out, at, time, why.number()),
-        Outcome::Done => at,
+    if let Err(why) = answered {
+        answer::refused(out, time, why.number());
     }
 }
 
-pub fn sweep(out: &mut [u8], at: usize, time: u64, answered: Outcome, events: Events) -> usize
-    ensures { Printed (sweep_text time answered events) event_most out.old at result out.new }
+pub fn sweep(out: &mut Text, time: u64, answered: Result<(), Refusal>, events: Events)
+    ensures { Prints (sweep_text time answered events) event_most out.old out.new }
 {
     match answered {
-        Outcome::Refused(why) => answer::refused(out, at, time, why.number()),
-        Outcome::Done => answer::probes(out, at, time, events),
+        Err(why) => answer::refused(out, time, why.number()),
+        Ok(()) => answer::probes(out, time, events),
     }
 }

@@ -2,10 +2,8 @@
 ghost use Rattle.std.specs.Prelude.{◌≡◌};
 ghost use Rattle.script.specs.ReadingRules.{address_want, event_want, SaidTo};
 
-use lines::event::{Event, Parsed, parse_event};
-use lines::header::Static;
-use text::address::Hardware;
-use text::number::Number;
+use lines::event::{Event, parse_event};
+use lines::header::{address_line, counted, mac};
 use wire::ethernet::HardwareAddress;
 use wire::ipv6::Ipv6Cidr;
 
@@ -29,7 +27,6 @@ pub enum Want {
 // What a line says, and what is wanted after it.
 #[derive(Clone, Copy)]
 pub enum Said {
-    Bad,
     Mac(HardwareAddress),
     // A count.
     Next(Want),
@@ -60,34 +57,24 @@ fn event_want(left: u64) -> Want
 }
 
 // Reads a line of the kind that is wanted. The message of an advertisement is read into the front of `message`.
-pub fn read_line(want: Want, line: &[u8], message: &mut [u8]) -> Said
+pub fn read_line(want: Want, line: &[u8], message: &mut [u8]) -> Option<Said>
     ensures { SaidTo message.old want line.now result message.new }
 {
     if line.len() > LINE_MAX {
-        return Said::Bad;
+        return None;
     }
     match want {
-        Want::Mac => match lines::header::mac(line) {
-            Hardware::Value(hardware_addr) => Said::Mac(hardware_addr),
-            Hardware::Bad => Said::Bad,
-        },
-        Want::Addresses => match lines::header::counted(line, b"addresses") {
-            Number::Value(count) => Said::Next(address_want(count)),
-            Number::Bad => Said::Bad,
-        },
-        Want::Address(left) => match lines::header::address_line(line) {
-            Static::Value(cidr) => Said::Static(cidr, address_want(left)),
-            Static::Bad => Said::Bad,
-        },
-        Want::Events => match lines::header::counted(line, b"events") {
-            Number::Value(count) => Said::Next(event_want(count)),
-            Number::Bad => Said::Bad,
-        },
-        Want::Event(left) => match parse_event(line, message) {
-            Parsed::At(time, event) => Said::Event(time, event, event_want(left)),
-            Parsed::Bad => Said::Bad,
-        },
-        Want::Nothing => Said::Bad,
-        Want::Failed => Said::Bad,
+        Want::Mac => {
+            let hardware_addr = mac(line)?;
+            Some(Said::Mac(hardware_addr))
+        }
+        Want::Addresses => Some(Said::Next(address_want(counted(line, b"addresses")?))),
+        Want::Address(left) => Some(Said::Static(address_line(line)?, address_want(left))),
+        Want::Events => Some(Said::Next(event_want(counted(line, b"events")?))),
+        Want::Event(left) => {
+            let (time, event) = parse_event(line, message)?;
+            Some(Said::Event(time, event, event_want(left)))
+        }
+        Want::Nothing | Want::Failed => None,
     }
 }

@@ -1,3 +1,4 @@
 pub mod LearnedLaws
 pub mod ExpiryLaws
+pub mod SlotLaws
 pub mod DiscoveryLaws

@@ -1,11 +1,10 @@
 -- Document 01, "Poll": router discovery, and turning SLAAC on. Assumes nothing.
-use Rattle.std.specs.Prelude.{ℕ, ◌-◌, ◌≡◌, Bool, true, false, cond, replicate, eqb}
+use Rattle.std.specs.Prelude.{ℕ, ◌-◌, ◌≡◌, Bool, true, false, cond, replicate, eqb, Result, Ok, Err}
 use Rattle.time.specs.declared.Instant.{Instant}
 use Rattle.time.specs.declared.Clock.{Clock}
 use Rattle.time.specs.declared.Answer.{Answer}
 use Rattle.time.specs.ClockRules.{asked_of, scheduled_of}
 use Rattle.time.specs.TimeRules.{add_of}
-use Rattle.wire.specs.declared.error.Check.{Check}
 use Rattle.wire.specs.declared.error.Refusal.{Refusal}
 use Rattle.wire.specs.Refusals.{check_number, outcome_number, decided, iface_check}
 use Rattle.slaac.specs.declared.Phase.{Phase}
@@ -13,7 +12,6 @@ use Rattle.slaac.specs.declared.Phase.TheVariants.{Start, Discovering, Maintaini
 use Rattle.slaac.specs.declared.Discovery.{Discovery}
 use Rattle.slaac.specs.declared.Slaac.{Slaac}
 use Rattle.slaac.specs.declared.Solicitation.{Solicitation}
-use Rattle.wire.specs.declared.error.Outcome.TheVariants.{Refused, Done}
 use Rattle.slaac.specs.declared.Changed.{Changed}
 use Rattle.slaac.specs.Fields.{with_discovery}
 use Rattle.slaac.specs.LearnedRules.{no_prefix, no_router}
@@ -74,15 +72,15 @@ turned_on_is s = cond s.on s (fresh true)
 
 -- number 7 belongs to both; "A refusal returns its number and changes nothing."
 abbrev pub turned_to : Slaac → Changed
-turned_to s = record { slaac = s; outcome = Done }
+turned_to s = record { slaac = s; outcome = Ok tt }
 
 abbrev pub unturned : Slaac → Refusal → Changed
-unturned s why = record { slaac = s; outcome = Refused why }
+unturned s why = record { slaac = s; outcome = Err why }
 
-abbrev pub turn_by : Check → Slaac → Slaac → Changed
+abbrev pub turn_by : Result (Unit {0}) Refusal → Slaac → Slaac → Changed
 turn_by check s s' = decided check (unturned s) (turned_to s')
 
-pub record TurnedTo (check : Check) (s s' : Slaac) (r : Changed) : Type 0 where
+pub record TurnedTo (check : Result (Unit {0}) Refusal) (s s' : Slaac) (r : Changed) : Type 0 where
   pub is : r ≡ turn_by check s s'
   pub number : outcome_number r.outcome ≡ check_number check
 

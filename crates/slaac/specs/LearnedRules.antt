@@ -1,5 +1,5 @@
 -- Document 01, "Advertisement", steps 2, 3 and 4: what an advertisement teaches. Request 2026-01: infinite lifetimes. Assumes nothing.
-use Rattle.std.specs.Prelude.{ℕ, ◌≡◌, Bool, true, cond, ◌||◌, not, List, [], ◌∷◌, take, drop, length, get_or, ltb, eqb}
+use Rattle.std.specs.Prelude.{ℕ, ◌≡◌, Bool, true, cond, ◌||◌, not, List, [], ◌∷◌, take, drop, length, get_or, ltb, eqb, Option, Some, None}
 use Rattle.table.specs.Table.{filled, at_first_is, any_of, if_room}
 use Rattle.time.specs.declared.Instant.{Instant}
 use Rattle.time.specs.declared.Duration.{Duration}
@@ -16,10 +16,6 @@ use Rattle.slaac.specs.declared.Phase.{Phase}
 use Rattle.slaac.specs.declared.Phase.TheVariants.{Start, Discovering, Maintaining}
 use Rattle.slaac.specs.declared.Discovery.{Discovery}
 use Rattle.slaac.specs.declared.Slaac.{Slaac}
-use Rattle.slaac.specs.declared.PrefixAt.{PrefixAt}
-use Rattle.slaac.specs.declared.PrefixAt.TheVariants.{Nothing, Is}
-use Rattle.slaac.specs.declared.RouterAt.{RouterAt}
-use Rattle.slaac.specs.declared.RouterAt.TheVariants.{Nothing as NoRouter, Is as IsRouter}
 use Rattle.slaac.specs.Fields.{with_prefixes, with_routers, with_discovery, with_sync, with_state}
 
 -- what a slot that was never used holds
@@ -147,34 +143,34 @@ store_flags_is s managed other =
 
 -- Listings: the entry at an index. No call refuses one, so its number is 0; its value is the entry, if there is one
 
-abbrev pub prefix_at : Slaac → ℕ → PrefixAt
-prefix_at s i = cond (ltb i (length (prefixes_of s))) (Is (get_or (prefixes_of s) i no_prefix)) Nothing
+abbrev pub prefix_at : Slaac → ℕ → Option Prefix
+prefix_at s i = cond (ltb i (length (prefixes_of s))) (Some (get_or (prefixes_of s) i no_prefix)) None
 
-abbrev pub prefix_at_number : PrefixAt → ℕ
-prefix_at_number Nothing = 0
-prefix_at_number (Is p) = 0
+abbrev pub prefix_at_number : Option Prefix → ℕ
+prefix_at_number None = 0
+prefix_at_number (Some p) = 0
 
-abbrev pub prefix_at_shown : PrefixAt → List Prefix
-prefix_at_shown Nothing = []
-prefix_at_shown (Is p) = p ∷ []
+abbrev pub prefix_at_shown : Option Prefix → List Prefix
+prefix_at_shown None = []
+prefix_at_shown (Some p) = p ∷ []
 
-pub record PrefixListed (s : Slaac) (i : ℕ) (r : PrefixAt) : Type 0 where
+pub record PrefixListed (s : Slaac) (i : ℕ) (r : Option Prefix) : Type 0 where
   pub is : r ≡ prefix_at s i
   pub number : prefix_at_number r ≡ 0
   pub shows : prefix_at_shown r ≡ take 1 (drop i (prefixes_of s))
 
-abbrev pub router_at : Slaac → ℕ → RouterAt
-router_at s i = cond (ltb i (length (routers_of s))) (IsRouter (get_or (routers_of s) i no_router)) NoRouter
+abbrev pub router_at : Slaac → ℕ → Option Router
+router_at s i = cond (ltb i (length (routers_of s))) (Some (get_or (routers_of s) i no_router)) None
 
-abbrev pub router_at_number : RouterAt → ℕ
-router_at_number NoRouter = 0
-router_at_number (IsRouter r) = 0
+abbrev pub router_at_number : Option Router → ℕ
+router_at_number None = 0
+router_at_number (Some r) = 0
 
-abbrev pub router_at_shown : RouterAt → List Router
-router_at_shown NoRouter = []
-router_at_shown (IsRouter r) = r ∷ []
+abbrev pub router_at_shown : Option Router → List Router
+router_at_shown None = []
+router_at_shown (Some r) = r ∷ []
 
-pub record RouterListed (s : Slaac) (i : ℕ) (r : RouterAt) : Type 0 where
+pub record RouterListed (s : Slaac) (i : ℕ) (r : Option Router) : Type 0 where
   pub is : r ≡ router_at s i
   pub number : router_at_number r ≡ 0
   pub shows : router_at_shown r ≡ take 1 (drop i (routers_of s))

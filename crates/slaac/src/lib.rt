@@ -2,16 +2,18 @@
 #![tactic(auto)]
 
 ghost use Rattle.std.specs.Prelude.{◌≡◌, true, false, not, ◌<◌};
+ghost use Rattle.std.specs.Fn.{FnReturnsAt};
 ghost use Rattle.time.specs.declared.Expiry.TheVariants.{At};
 ghost use Rattle.time.specs.ClockRules.{is_after};
-ghost use Rattle.slaac.specs.LearnedRules.{is_skipped, until_of, prefix_of, add_prefix, expire_prefix, process_prefix_is, add_router, expire_router, process_router_is, heard, store_flags_is, PrefixListed, RouterListed};
-ghost use Rattle.slaac.specs.DiscoveryRules.{due, sent, solicitation, fresh, RestartedTo, TurnedOnTo};
+ghost use Rattle.slaac.specs.Slots.{Puts};
+ghost use Rattle.slaac.specs.LearnedRules.{is_skipped, cidr_of, until_of, prefix_of, add_prefix, expire_prefix, process_prefix_is, add_router, expire_router, process_router_is, heard, store_flags_is, PrefixListed, RouterListed};
+ghost use Rattle.slaac.specs.DiscoveryRules.{due, sent, solicitation, begun, fresh, RestartedTo, TurnedOnTo};
 ghost use Rattle.slaac.specs.ExpiryRules.{ask_also, sync_due, leave_expired};
 
 use ndisc::ndiscoption::PrefixInformation;
 use table::count_of;
 use time::{Answer, Clock, Duration, Expiry, Instant};
-use wire::error::{Check, Outcome, check_iface};
+use wire::error::{Refusal, check_iface};
 use wire::ipv6::{Ipv6Addr, Ipv6Cidr};
 
 // How many prefixes SLAAC keeps of an interface.
@@ -66,7 +68,8 @@ pub struct SlaacState {
     pub other_config: bool,
 }
 
-// SLAAC of one interface. Its addresses and routes are in the interface's tables, which a sync brings up to date.
+// SLAAC of one interface. Its two tables are arrays, and counts, which may be above their size (document 01). Its addresses and routes
+// are in the interface's tables, which a sync brings up to date.
 #[derive(Clone, Copy)]
 pub struct Slaac {
     pub on: bool,
@@ -79,23 +82,11 @@ pub struct Slaac {
     pub state: SlaacState,
 }
 
+// States go by value (document 01): the outcome stands beside.
 #[derive(Clone, Copy)]
 pub struct Changed {
     pub slaac: Slaac,
-    pub outcome: Outcome,
-}
-
-// An entry of a listing.
-#[derive(Clone, Copy)]
-pub enum PrefixAt {
-    Nothing,
-    Is(Prefix),
-}
-
-#[derive(Clone, Copy)]
-pub enum RouterAt {
-    Nothing,
-    Is(Router),
+    pub outcome: Result<(), Refusal>,
 }
 
 // Whether a solicitation goes out, and what it leaves.
@@ -110,37 +101,60 @@ pub struct Solicitation {
 fn is_valid_prefix_info(info: PrefixInformation) -> bool
     ensures { result ≡ not (is_skipped info) }
 {
-    let prefix = info.prefix;
     let too_long = info.prefix_len > MAX_PREFIX_LEN;
     let outlives = info.preferred_lifetime > info.valid_lifetime;
-    let link_local = prefix.is_link_local();
-    let multicast = prefix.is_multicast();
-    !(too_long | !info.addrconf | link_local | multicast | outlives)
+    !(too_long
+        || !info.addrconf
+        || info.prefix.is_link_local()
+        || info.prefix.is_multicast()
+        || outlives)
+}
+
+// The prefix that an option names.
+fn cidr_of(info: PrefixInformation) -> Ipv6Cidr
+    ensures { result ≡ cidr_of info }
+{
+    Ipv6Cidr {
+        address: info.prefix,
+        prefix_len: info.prefix_len,
+    }
 }
 
 // When a prefix's lifetime ends, counted from now.
 fn lifetime_end(seconds: u32, now: Instant) -> Expiry
     ensures { result ≡ until_of now seconds }
 {
-    let lifetime = Duration::from_secs(seconds);
-    let end = now.add(lifetime);
     if seconds == Prefix::INFINITE_LIFETIME {
         return Expiry::Forever;
     }
-    Expiry::At(end)
+    Expiry::At(now.add(Duration::from_secs(seconds)))
 }
 
 // The clock is asked of one end more.
 fn ask_also(so_far: Answer, end: Expiry) -> Answer
     ensures { result ≡ ask_also so_far end }
 {
-    let clock = so_far.clock;
-    let asked = time::asked_of(clock, end);
-    let clock_after = asked.clock;
+    let asked = time::asked_of(so_far.clock, end);
     Answer {
-        expired: so_far.expired | asked.expired,
-        clock: clock_after,
+        expired: so_far.expired || asked.expired,
+        ..asked
     }
+}
+
+// The first entry that passes becomes `entry`; where none does it is appended, unless the table is full. Whether it stands there now.
+fn put<T: Copy, F: Fn(&T) -> bool>(slots: &mut [T], len: &mut usize, entry: T, test: F) -> bool
+    requires { F.IsAlwaysCallable test }
+    ensures { Puts (λ x b. FnReturnsAt F.Fn test x b) entry slots.old len.old slots.new len.new result }
+{
+    let count = count_of(*len, slots.len());
+    let at = table::position(&slots[..count], test).unwrap_or(count);
+    *len = count;
+    if at < slots.len() {
+        slots[at] = entry;
+        *len = count.max(at + 1);
+        return true;
+    }
+    false
 }
 
 impl Prefix {
@@ -151,16 +165,10 @@ impl Prefix {
     fn from_prefix(info: PrefixInformation, now: Instant) -> Prefix
         ensures { result ≡ prefix_of info now }
     {
-        let address = info.prefix;
-        let preferred_until = lifetime_end(info.preferred_lifetime, now);
-        let valid_until = lifetime_end(info.valid_lifetime, now);
         Prefix {
-            cidr: Ipv6Cidr {
-                address: address,
-                prefix_len: info.prefix_len,
-            },
-            preferred_until: preferred_until,
-            valid_until: valid_until,
+            cidr: cidr_of(info),
+            preferred_until: lifetime_end(info.preferred_lifetime, now),
+            valid_until: lifetime_end(info.valid_lifetime, now),
         }
     }
 
@@ -168,24 +176,21 @@ impl Prefix {
     pub fn is_valid(self, now: Instant) -> bool
         ensures { result ≡ is_after self.valid_until now }
     {
-        let valid_until = self.valid_until;
-        valid_until.is_after(now)
+        self.valid_until.is_after(now)
     }
 
     // Whether it is still preferred.
     pub fn is_preferred(self, now: Instant) -> bool
         ensures { result ≡ is_after self.preferred_until now }
     {
-        let preferred_until = self.preferred_until;
-        preferred_until.is_after(now)
+        self.preferred_until.is_after(now)
     }
 
     // Whether it has expired, on top of what was answered before.
     fn has_expired(self, before: Answer) -> Answer
         ensures { result ≡ ask_also before self.valid_until }
     {
-        let valid_until = self.valid_until;
-        ask_also(before, valid_until)
+        ask_also(before, self.valid_until)
     }
 }
 
@@ -194,31 +199,36 @@ impl Router {
     pub fn is_valid(self, now: Instant) -> bool
         ensures { result ≡ is_after (At self.valid_until) now }
     {
-        let valid_until = self.valid_until;
-        valid_until.0 > now.0
+        self.valid_until > now
     }
 
     fn has_expired(self, before: Answer) -> Answer
         ensures { result ≡ ask_also before (At self.valid_until) }
     {
-        let valid_until = self.valid_until;
-        ask_also(before, Expiry::At(valid_until))
+        ask_also(before, Expiry::At(self.valid_until))
     }
 }
 
 impl Discovery {
+    fn new() -> Discovery
+        ensures { result ≡ begun }
+    {
+        Discovery {
+            phase: Phase::Start,
+            num_solicitations: Slaac::MAX_RTR_SOLICITATIONS,
+        }
+    }
+
     // An advertisement was heard. It might be unsolicited, so the phase Start stays.
     fn heard(self) -> Discovery
         ensures { result ≡ heard self }
     {
-        let phase = self.phase;
-        match phase {
-            Phase::Start => self,
+        match self.phase {
+            Phase::Start | Phase::Maintaining => self,
             Phase::Discovering(_) => Discovery {
                 phase: Phase::Maintaining,
-                num_solicitations: self.num_solicitations,
+                ..self
             },
-            Phase::Maintaining => self,
         }
     }
 
@@ -226,22 +236,21 @@ impl Discovery {
     fn rs_required(self, clock: Clock) -> Answer
         ensures { result ≡ due self clock }
     {
-        let phase = self.phase;
         if self.num_solicitations == 0 {
             return Answer {
                 expired: false,
-                clock: clock,
+                clock,
             };
         }
-        match phase {
+        match self.phase {
             Phase::Start => Answer {
                 expired: true,
-                clock: clock,
+                clock,
             },
             Phase::Discovering(retry_rs_at) => time::asked(clock, retry_rs_at),
             Phase::Maintaining => Answer {
                 expired: false,
-                clock: clock,
+                clock,
             },
         }
     }
@@ -251,25 +260,21 @@ impl Discovery {
         requires { 0 < self.num_solicitations }
         ensures { result ≡ sent self clock }
     {
-        let now = clock.now;
-        let retry_rs_at = now.add(Slaac::RTR_SOLICITATION_INTERVAL);
+        let retry_rs_at = clock.now.add(Slaac::RTR_SOLICITATION_INTERVAL);
         let left = self.num_solicitations - 1;
         let discovery = Discovery {
             phase: Phase::Discovering(retry_rs_at),
             num_solicitations: left,
         };
-        if left == 0 {
-            return Solicitation {
-                due: true,
-                discovery: discovery,
-                clock: clock,
-            };
-        }
-        let clock_after = time::scheduled(clock, retry_rs_at);
+        let clock = if left == 0 {
+            clock
+        } else {
+            time::scheduled(clock, retry_rs_at)
+        };
         Solicitation {
             due: true,
-            discovery: discovery,
-            clock: clock_after,
+            discovery,
+            clock,
         }
     }
 
@@ -278,14 +283,13 @@ impl Discovery {
         ensures { result ≡ solicitation self clock }
     {
         let required = self.rs_required(clock);
-        let clock_after = required.clock;
         if required.expired {
-            return self.rs_sent(clock_after);
+            return self.rs_sent(required.clock);
         }
         Solicitation {
             due: false,
             discovery: self,
-            clock: clock_after,
+            clock: required.clock,
         }
     }
 }
@@ -311,18 +315,13 @@ impl Slaac {
             addr: Ipv6Addr { hi: 0, lo: 0 },
             valid_until: Instant(0),
         };
-        let prefixes = [blank_prefix; SLAAC_PREFIX_COUNT];
-        let routers = [blank_router; SLAAC_ROUTER_COUNT];
         Slaac {
-            on: on,
-            prefixes: prefixes,
+            on,
+            prefixes: [blank_prefix; SLAAC_PREFIX_COUNT],
             prefix_count: 0,
-            routers: routers,
+            routers: [blank_router; SLAAC_ROUTER_COUNT],
             router_count: 0,
-            discovery: Discovery {
-                phase: Phase::Start,
-                num_solicitations: Slaac::MAX_RTR_SOLICITATIONS,
-            },
+            discovery: Discovery::new(),
             sync_required: false,
             state: SlaacState {
                 routers_seen: false,
@@ -347,61 +346,32 @@ impl Slaac {
     }
 
     // The entry of that prefix is refreshed; a missing one is appended, unless the table is full.
-    fn add_prefix(self, prefix: Prefix) -> Slaac
+    fn add_prefix(mut self, prefix: Prefix) -> Slaac
         ensures { result ≡ add_prefix self prefix }
     {
-        let count = count_of(self.prefix_count, SLAAC_PREFIX_COUNT);
-        let cidr = prefix.cidr;
-        let mut i = 0;
-        while i < count {
-            let entry = self.prefixes[i];
-            let entry_cidr = entry.cidr;
-            if entry_cidr.same(cidr) {
-                let mut slaac = self;
-                slaac.prefixes[i] = prefix;
-                slaac.prefix_count = count;
-                slaac.sync_required = true;
-                return slaac;
-            }
-            i += 1;
-        }
-        let mut slaac = self;
-        if count < SLAAC_PREFIX_COUNT {
-            slaac.prefixes[count] = prefix;
-            slaac.prefix_count = count + 1;
-            slaac.sync_required = true;
-            return slaac;
-        }
-        slaac.prefix_count = count;
-        slaac
+        let stands = put(
+            &mut self.prefixes,
+            &mut self.prefix_count,
+            prefix,
+            |entry| entry.cidr == prefix.cidr,
+        );
+        self.sync_required |= stands;
+        self
     }
 
     // The entry of that prefix, if there is one, has run out.
-    fn expire_prefix(self, cidr: Ipv6Cidr, now: Instant) -> Slaac
+    fn expire_prefix(mut self, cidr: Ipv6Cidr, now: Instant) -> Slaac
         ensures { result ≡ expire_prefix self cidr now }
     {
-        let count = count_of(self.prefix_count, SLAAC_PREFIX_COUNT);
-        let mut i = 0;
-        while i < count {
-            let entry = self.prefixes[i];
-            let entry_cidr = entry.cidr;
-            if entry_cidr.same(cidr) {
-                let expired = Prefix {
-                    cidr: entry_cidr,
-                    preferred_until: Expiry::At(now),
-                    valid_until: Expiry::At(now),
-                };
-                let mut slaac = self;
-                slaac.prefixes[i] = expired;
-                slaac.prefix_count = count;
-                slaac.sync_required = true;
-                return slaac;
-            }
-            i += 1;
+        self.prefix_count = count_of(self.prefix_count, SLAAC_PREFIX_COUNT);
+        let entries = &self.prefixes[..self.prefix_count];
+        if let Some(at) = table::position(entries, |entry| entry.cidr == cidr) {
+            let entry = &mut self.prefixes[at];
+            entry.preferred_until = Expiry::At(now);
+            entry.valid_until = Expiry::At(now);
+            self.sync_required = true;
         }
-        let mut slaac = self;
-        slaac.prefix_count = count;
-        slaac
+        self
     }
 
     // A prefix option of an advertisement that arrives now.
@@ -410,74 +380,39 @@ impl Slaac {
     {
         if is_valid_prefix_info(info) {
             if info.valid_lifetime > 0 {
-                let prefix = Prefix::from_prefix(info, now);
-                return self.add_prefix(prefix);
+                return self.add_prefix(Prefix::from_prefix(info, now));
             }
-            let address = info.prefix;
-            let cidr = Ipv6Cidr {
-                address: address,
-                prefix_len: info.prefix_len,
-            };
-            return self.expire_prefix(cidr, now);
+            return self.expire_prefix(cidr_of(info), now);
         }
         self
     }
 
     // The router's entry is refreshed; a missing one is appended, unless the table is full.
-    fn add_router(self, router: Router) -> Slaac
+    fn add_router(mut self, router: Router) -> Slaac
         ensures { result ≡ add_router self router }
     {
-        let count = count_of(self.router_count, SLAAC_ROUTER_COUNT);
-        let addr = router.addr;
-        let mut i = 0;
-        while i < count {
-            let entry = self.routers[i];
-            let entry_addr = entry.addr;
-            if entry_addr.same(addr) {
-                let mut slaac = self;
-                slaac.routers[i] = router;
-                slaac.router_count = count;
-                slaac.sync_required = true;
-                return slaac;
-            }
-            i += 1;
-        }
-        let mut slaac = self;
-        if count < SLAAC_ROUTER_COUNT {
-            slaac.routers[count] = router;
-            slaac.router_count = count + 1;
-            slaac.sync_required = true;
-            return slaac;
-        }
-        slaac.router_count = count;
-        slaac
+        let stands = put(
+            &mut self.routers,
+            &mut self.router_count,
+            router,
+            |entry| entry.addr == router.addr,
+        );
+        self.sync_required |= stands;
+        self
     }
 
     // The router's entry, if there is one, has run out.
-    fn expire_router(self, addr: Ipv6Addr, now: Instant) -> Slaac
+    // Beside `expire_prefix`: past the search, which is `table`'s, other fields end.
+    fn expire_router(mut self, addr: Ipv6Addr, now: Instant) -> Slaac
         ensures { result ≡ expire_router self addr now }
     {
-        let count = count_of(self.router_count, SLAAC_ROUTER_COUNT);
-        let mut i = 0;
-        while i < count {
-            let entry = self.routers[i];
-            let entry_addr = entry.addr;
-            if entry_addr.same(addr) {
-                let expired = Router {
-                    addr: entry_addr,
-                    valid_until: now,
-                };
-                let mut slaac = self;
-                slaac.routers[i] = expired;
-                slaac.router_count = count;
-                slaac.sync_required = true;
-                return slaac;
-            }
-            i += 1;
+        self.router_count = count_of(self.router_count, SLAAC_ROUTER_COUNT);
+        let entries = &self.routers[..self.router_count];
+        if let Some(at) = table::position(entries, |entry| entry.addr == addr) {
+            self.routers[at].valid_until = now;
+            self.sync_required = true;
         }
-        let mut slaac = self;
-        slaac.router_count = count;
-        slaac
+        self
     }
 
     // The source of an advertisement that arrives now is a default router for that lifetime.
@@ -486,11 +421,10 @@ impl Slaac {
     {
         if lifetime.0 > 0 {
             let valid_until = now.add(lifetime);
-            let router = Router {
+            return self.add_router(Router {
                 addr: source,
-                valid_until: valid_until,
-            };
-            return self.add_router(router);
+                valid_until,
+            });
         }
         self.expire_router(source, now)
     }
@@ -499,17 +433,15 @@ impl Slaac {
     pub fn store_flags(self, managed: bool, other_config: bool) -> Slaac
         ensures { result ≡ store_flags_is self managed other_config }
     {
-        let mut slaac = self;
-        let discovery = slaac.discovery;
-        let heard = discovery.heard();
-        slaac.discovery = heard;
-        let state = SlaacState {
-            routers_seen: true,
-            managed: managed,
-            other_config: other_config,
-        };
-        slaac.state = state;
-        slaac
+        Slaac {
+            discovery: self.discovery.heard(),
+            state: SlaacState {
+                routers_seen: true,
+                managed,
+                other_config,
+            },
+            ..self
+        }
     }
 
     // Whether the tables are behind. It asks of every time, though one would do, so that the clock has heard of them all.
@@ -518,83 +450,59 @@ impl Slaac {
     {
         let prefix_count = count_of(self.prefix_count, SLAAC_PREFIX_COUNT);
         let router_count = count_of(self.router_count, SLAAC_ROUTER_COUNT);
-        let mut answer = Answer {
+        let sync_required = Answer {
             expired: self.sync_required,
-            clock: clock,
+            clock,
         };
-        let mut i = 0;
-        while i < prefix_count {
-            let prefix = self.prefixes[i];
-            answer = prefix.has_expired(answer);
-            i += 1;
-        }
-        let mut j = 0;
-        while j < router_count {
-            let router = self.routers[j];
-            answer = router.has_expired(answer);
-            j += 1;
-        }
-        answer
+        let asked = self.prefixes[..prefix_count]
+            .iter()
+            .fold(sync_required, |answer, prefix| prefix.has_expired(answer));
+        self.routers[..router_count]
+            .iter()
+            .fold(asked, |answer, router| router.has_expired(answer))
     }
 
     // Expired prefixes and routers leave, and the request is cleared.
-    pub fn update_slaac_state(self, now: Instant) -> Slaac
+    pub fn update_slaac_state(mut self, now: Instant) -> Slaac
         ensures { result ≡ leave_expired now self }
     {
         let prefix_count = count_of(self.prefix_count, SLAAC_PREFIX_COUNT);
-        let mut slaac = self;
-        let mut prefixes_kept = 0;
-        let mut i = 0;
-        while i < prefix_count {
-            let prefix = slaac.prefixes[i];
-            i += 1;
-            if prefix.is_valid(now) {
-                slaac.prefixes[prefixes_kept] = prefix;
-                prefixes_kept += 1;
-            }
-        }
-        slaac.prefix_count = prefixes_kept;
+        self.prefix_count = table::retain(
+            &mut self.prefixes,
+            prefix_count,
+            |prefix| prefix.is_valid(now),
+        );
         let router_count = count_of(self.router_count, SLAAC_ROUTER_COUNT);
-        let mut routers_kept = 0;
-        let mut j = 0;
-        while j < router_count {
-            let router = slaac.routers[j];
-            j += 1;
-            if router.is_valid(now) {
-                slaac.routers[routers_kept] = router;
-                routers_kept += 1;
-            }
-        }
-        slaac.router_count = routers_kept;
-        slaac.sync_required = false;
-        slaac
+        self.router_count = table::retain(
+            &mut self.routers,
+            router_count,
+            |router| router.is_valid(now),
+        );
+        self.sync_required = false;
+        self
     }
 
     // Discovery from the start, as after the link was down (RFC 4861, 6.3.7); what is known stays.
     pub fn restart(self, iface: u8) -> Changed
         ensures { RestartedTo self iface result }
     {
-        if let Check::Refused(why) = check_iface(iface) {
+        if let Err(why) = check_iface(iface) {
             return Changed {
                 slaac: self,
-                outcome: Outcome::Refused(why),
+                outcome: Err(why),
             };
         }
-        let mut slaac = self;
-        if slaac.on {
-            let begun = Discovery {
-                phase: Phase::Start,
-                num_solicitations: Slaac::MAX_RTR_SOLICITATIONS,
-            };
-            slaac.discovery = begun;
-            return Changed {
-                slaac: slaac,
-                outcome: Outcome::Done,
-            };
-        }
+        let slaac = if self.on {
+            Slaac {
+                discovery: Discovery::new(),
+                ..self
+            }
+        } else {
+            self
+        };
         Changed {
-            slaac: slaac,
-            outcome: Outcome::Done,
+            slaac,
+            outcome: Ok(()),
         }
     }
 
@@ -602,46 +510,31 @@ impl Slaac {
     pub fn turn_on(self, iface: u8) -> Changed
         ensures { TurnedOnTo self iface result }
     {
-        if let Check::Refused(why) = check_iface(iface) {
+        if let Err(why) = check_iface(iface) {
             return Changed {
                 slaac: self,
-                outcome: Outcome::Refused(why),
+                outcome: Err(why),
             };
         }
-        if self.on {
-            return Changed {
-                slaac: self,
-                outcome: Outcome::Done,
-            };
-        }
-        let slaac = Slaac::new();
         Changed {
-            slaac: slaac,
-            outcome: Outcome::Done,
+            slaac: if self.on { self } else { Slaac::new() },
+            outcome: Ok(()),
         }
     }
 
     // The listing of the prefixes, entry by entry.
-    pub fn prefix_at(self, index: usize) -> PrefixAt
+    pub fn prefix_at(self, index: usize) -> Option<Prefix>
         ensures { PrefixListed self index result }
     {
         let count = count_of(self.prefix_count, SLAAC_PREFIX_COUNT);
-        if index < count {
-            let prefix = self.prefixes[index];
-            return PrefixAt::Is(prefix);
-        }
-        PrefixAt::Nothing
+        self.prefixes[..count].get(index).copied()
     }
 
     // And of the routers.
-    pub fn router_at(self, index: usize) -> RouterAt
+    pub fn router_at(self, index: usize) -> Option<Router>
         ensures { RouterListed self index result }
     {
         let count = count_of(self.router_count, SLAAC_ROUTER_COUNT);
-        if index < count {
-            let router = self.routers[index];
-            return RouterAt::Is(router);
-        }
-        RouterAt::Nothing
+        self.routers[..count].get(index).copied()
     }
 }

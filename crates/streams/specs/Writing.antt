@@ -1,7 +1,8 @@
 -- Where output goes. No contract can say what the system's writers take: what is said here is how much was handed over and went well, and that a
 -- writer that says what it holds has it. Assumes nothing.
-use Rattle.std.specs.Prelude.{◌≡◌, ℕ, ◌+◌, ◌%◌, ◌^◌, Bool, true, false, cond, List, Option}
+use Rattle.std.specs.Prelude.{◌≡◌, ℕ, ◌+◌, ◌%◌, ◌^◌, Bool, true, false, List, Option, Result, Ok, Err}
 use Rattle.std.specs.Io.KnownBytes.{Appends}
+use Rattle.streams.specs.declared.sink.NotWritten.{NotWritten}
 use Rattle.streams.specs.declared.sink.Sink.{Sink}
 use Rattle.streams.specs.declared.sink.Target.{Target}
 use Rattle.streams.specs.declared.sink.Target.TheVariants.{Write, Compare}
@@ -21,8 +22,9 @@ abbrev pub hand_over : ℕ → Sink → Sink
 hand_over n s = sink_of (wrapped (s.handed + n))
 
 -- what went well is counted, and nothing else
-abbrev pub counted_by : Bool → ℕ → Sink → Sink
-counted_by ok n s = cond ok (hand_over n s) s
+abbrev pub counted_by : {A : Type 0} → Result A NotWritten → ℕ → Sink → Sink
+counted_by (Ok x) n s = hand_over n s
+counted_by (Err e) n s = s
 
 -- what is written is held to nothing
 abbrev pub Done : {W R : Type 0} → Target W R → Bool → Type 0

@@ -1,9 +1,8 @@
 // Where output goes, and how much of it went there.
-ghost use Rattle.std.specs.Prelude.{◌≡◌, ◌<◌, ◌≤◌, length, true};
+ghost use Rattle.std.specs.Prelude.{◌≡◌, length, true, OnOk};
 ghost use Rattle.streams.specs.Writing.{fresh, counted_by, is_written, Done, Wrote};
 
 use std::io::{Read, Write};
-use text::scan::is;
 
 // What is compared at a time.
 const BLOCK: usize = 65536;
@@ -15,18 +14,15 @@ pub enum Target<W, R> {
     Compare(R),
 }
 
+// The bytes were not written, or are not the same.
+#[derive(Clone, Copy, Debug)]
+pub struct NotWritten;
+
 // The field is its own, so that nobody else can count for it.
 #[derive(Clone, Copy)]
 pub struct Sink {
     // how many bytes were handed over and went well, modulo 2^64
     handed: u64,
-}
-
-// Whether the bytes were written, or are the same.
-#[derive(Clone, Copy)]
-pub struct Emitted {
-    pub ok: bool,
-    pub sink: Sink,
 }
 
 impl Sink {
@@ -35,65 +31,45 @@ impl Sink {
     {
         Sink { handed: 0 }
     }
-}
 
-// Whether the next bytes of held are these; they are read into room.
-fn reads_as<R: Read>(held: &mut R, room: &mut [u8], bytes: &[u8]) -> bool {
-    held.read_exact(room).is_ok() && is(room, bytes)
-}
-
-fn smaller(left: usize, room: usize) -> usize
-    requires { (0 < left) × (0 < room) }
-    ensures { (0 < result) × (result ≤ left) × (result ≤ room) }
-{
-    if left < room { left } else { room }
-}
-
-// The same for any number of bytes, as many at a time as room holds.
-fn matches<R: Read>(held: &mut R, room: &mut [u8], bytes: &[u8]) -> bool
-    requires { 0 < length room.old }
-{
-    let mut at = 0;
-    while at < bytes.len() {
-        let left = bytes.len() - at;
-        let size = smaller(left, room.len());
-        let to = at + size;
-        if !reads_as(held, &mut room[..size], &bytes[at..to]) {
-            return false;
-        }
-        at = to;
+    // Hands the bytes over, and counts them if that went well: a caller that passes over the error has the count against it.
+    pub fn emit<W: Write, R: Read>(
+        &mut self,
+        target: &mut Target<W, R>,
+        bytes: &[u8],
+    ) -> Result<(), NotWritten>
+        ensures counted { self.new ≡ counted_by result (length bytes.now) self.old }
+        ensures kind { is_written target.new ≡ is_written target.old }
+        ensures written { OnOk result (Wrote W.contents target.old target.new bytes.now) }
+    {
+        hand_over(target, bytes)?;
+        self.handed = self.handed.wrapping_add(bytes.len() as u64);
+        Ok(())
     }
-    true
+}
+
+// Whether the next bytes of held are these.
+fn compare<R: Read>(held: &mut R, bytes: &[u8]) -> Result<(), NotWritten> {
+    let mut room = [0u8; BLOCK];
+    for block in bytes.chunks(BLOCK) {
+        let came = &mut room[..block.len()];
+        held.read_exact(came).map_err(|_| NotWritten)?;
+        if &*came != block {
+            return Err(NotWritten);
+        }
+    }
+    Ok(())
 }
 
 // Writes all the bytes, or reads as many and compares.
-fn hand_over<W: Write, R: Read>(target: &mut Target<W, R>, bytes: &[u8]) -> bool
+fn hand_over<W: Write, R: Read>(target: &mut Target<W, R>, bytes: &[u8]) -> Result<(), NotWritten>
     ensures kind { is_written target.new ≡ is_written target.old }
-    ensures written { result ≡ true → Wrote W.contents target.old target.new bytes.now }
+    ensures written { OnOk result (Wrote W.contents target.old target.new bytes.now) }
 {
     match target {
-        Target::Write(output) => output.write_all(bytes).is_ok(),
-        Target::Compare(held) => {
-            let mut room = [0u8; BLOCK];
-            matches(held, &mut room, bytes)
-        }
+        Target::Write(output) => output.write_all(bytes).map_err(|_| NotWritten),
+        Target::Compare(held) => compare(held, bytes),
     }
-}
-
-// Hands the bytes over, and counts them if that went well: a caller that passes over `ok` has the count against it.
-pub fn emit<W: Write, R: Read>(sink: Sink, target: &mut Target<W, R>, bytes: &[u8]) -> Emitted
-    ensures counted { result.sink ≡ counted_by result.ok (length bytes.now) sink }
-    ensures kind { is_written target.new ≡ is_written target.old }
-    ensures written { result.ok ≡ true → Wrote W.contents target.old target.new bytes.now }
-{
-    if hand_over(target, bytes) {
-        let handed = sink.handed.wrapping_add(bytes.len() as u64);
-        return Emitted {
-            ok: true,
-            sink: Sink { handed },
-        };
-    }
-    Emitted { ok: false, sink }
 }
 
 fn at_end<R: Read>(held: &mut R) -> bool {

@@ -2,5 +2,4 @@ pub mod ExpiryLaws
 pub mod LookLaws
 pub mod ProbeLaws
 pub mod SweepLaws
-pub mod TimerLaws
 pub mod Entries

@@ -1,9 +1,9 @@
 -- Laws of the probe events. Assumes nothing.
 use Prim.Native.Nat.{ℕ, zero, suc, ◌+◌, ◌-◌, ◌<◌, ◌≤◌}
-use lib.ListN.{length, get_or, set, take, drop, replicate, length-set, length-map}
+use lib.ListN.{length, get_or, set, take, drop, replicate, length-set}
 use lib.Seq.{length-take-le, drop-length}
 use mathlib.Core.Bool.{Bool, true, false, cond}
-use mathlib.Core.List.{List, [], ◌∷◌, map}
+use mathlib.Core.List.{List, [], ◌∷◌}
 use mathlib.Core.Path.{◌≡◌, refl, ap, ap₂, sym, ◌∙◌}
 use native.Mathlib.Numerals.{add-one}
 use native.Mathlib.Omega.{arith}
@@ -12,10 +12,9 @@ use Rattle.neighbor.specs.declared.Entry.{Entry}
 use Rattle.neighbor.specs.declared.NeighborCache.{NeighborCache}
 use Rattle.sweep.proofs.Entries.{seen, seen_probe}
 use Rattle.sweep.proofs.LookLaws.{looked_at_lem, looked_at_none, looked_past}
-use Rattle.sweep.specs.SweepCalls.{ProbeIn, nothing, happens, probe_in_at, probe_in, EventsIn, and_then_in, events_in, slot_of, events_table, probe_all, blank_event}
+use Rattle.sweep.specs.SweepCalls.{ProbeIn, nothing, happens, probe_in_at, probe_in, EventsIn, and_then_in, events_in, events_table, probe_all, blank_event}
 use Rattle.sweep.specs.SweepParts.{timer_of}
 use Rattle.sweep.specs.SweepRules.{due, spent, probed, nothing as no_probe, happens as there-is, probe, looks_from}
-use Rattle.sweep.specs.declared.EventSlot.{EventSlot}
 use Rattle.sweep.specs.declared.Events.{Events}
 use Rattle.sweep.specs.declared.ProbeEvent.TheVariants.{Retransmit, Failed}
 use Rattle.sweep.specs.declared.ProbeEvent.{ProbeEvent}
@@ -144,7 +143,7 @@ module _ (i : ℕ) (now : Instant) (e : Entry) where
 -- The loop: the events from place `p` on, over the first `k` of the slots `s`, are all that is left of the events over the
 -- first `k₀` of `s₀`; `m` events stand in `b`, which was `b₀`; `l` entries were looked at, and what is left to look at makes up the rest
 
-pub record Probing (i : ℕ) (now : Instant) (s₀ : List Entry) (k₀ : ℕ) (b₀ b : List EventSlot) (s : List Entry) (k m l p : ℕ) : Type 0 where
+pub record Probing (i : ℕ) (now : Instant) (s₀ : List Entry) (k₀ : ℕ) (b₀ b : List ProbeEvent) (s : List Entry) (k m l p : ℕ) : Type 0 where
   pub low : p ≤ k
   pub most : k ≤ 16
   pub room : m + k ≤ 16 + p
@@ -154,10 +153,10 @@ pub record Probing (i : ℕ) (now : Instant) (s₀ : List Entry) (k₀ : ℕ) (b
   pub fuel : ℕ
   pub enough : k ≤ p + fuel
   pub cache : (events_in fuel i now (cache_of s k) p).cache ≡ (probe_all i now (cache_of s₀ k₀)).cache
-  pub events : Collecting (map slot_of (probe_all i now (cache_of s₀ k₀)).events) b₀ b m (map slot_of (events_in fuel i now (cache_of s k) p).events)
+  pub events : Collecting ((probe_all i now (cache_of s₀ k₀)).events) b₀ b m ((events_in fuel i now (cache_of s k) p).events)
   pub looks : l + length (looks_from fuel i now (take k s) p) ≡ length (looks_from (length (take k₀ s₀)) i now (take k₀ s₀) 0)
 
-pub probing : (i : ℕ) (now : Instant) (s : List Entry) (k : ℕ) (b : List EventSlot) → length s ≡ 16 → k ≤ 16 → length b ≡ 16
+pub probing : (i : ℕ) (now : Instant) (s : List Entry) (k : ℕ) (b : List ProbeEvent) → length s ≡ 16 → k ≤ 16 → length b ≡ 16
     → Probing i now s k b b s k 0 0 0
 unfolding probe_all
 probing i now s k b full most blanks =
@@ -176,7 +175,7 @@ probing i now s k b full most blanks =
       looks = omega arith;
     }
 
-module _ (i : ℕ) (now : Instant) (s₀ : List Entry) (k₀ : ℕ) (b₀ b : List EventSlot) (s : List Entry) (k m l p : ℕ)
+module _ (i : ℕ) (now : Instant) (s₀ : List Entry) (k₀ : ℕ) (b₀ b : List ProbeEvent) (s : List Entry) (k m l p : ℕ)
     (inv : Probing i now s₀ k₀ b₀ b s k m l p) where
   number : k ≡ length (take k s)
   number = sym (length-take-le k s (omega (arith, inv.most, inv.full)))
@@ -220,14 +219,14 @@ module _ (i : ℕ) (now : Instant) (s₀ : List Entry) (k₀ : ℕ) (b₀ b : Li
           fuel = inv.fuel;
           enough = omega (arith, inv.enough);
           cache = sym (ap (λ (x : EventsIn). x.cache) e) ∙ inv.cache;
-          events = table.nothing _ _ _ _ _ inv.events _ (ap (λ (x : EventsIn). map slot_of x.events) e);
+          events = table.nothing _ _ _ _ _ inv.events _ (ap (λ (x : EventsIn). x.events) e);
           looks = omega (arith, o, inv.looks);
         }
 
     -- an event happens: `s'`, `k'` and `p'` are the slots, the count and the place after it
     module _ (v : ProbeEvent) (s' : List Entry) (k' p' : ℕ) (w : probe_in i now (cache_of s k) p ≡ happens v (cache_of s' k') p')
         (full : length s' ≡ 16) (low : p' ≤ k') (less : k' + p + 1 ≡ k + p') (most : k' ≤ k) (g : due i now (get_or s p blank) ≡ true) where
-      happened : Probing i now s₀ k₀ b₀ (set b m (slot_of v)) s' k' (m + 1) (l + 1) p'
+      happened : Probing i now s₀ k₀ b₀ (set b m (v)) s' k' (m + 1) (l + 1) p'
       happened =
           let e : events_in inv.fuel i now (cache_of s k) p ≡ and_then_in v (events_in f i now (cache_of s' k') p') =
           ap (λ (x : ℕ). events_in x i now (cache_of s k) p) one_more ∙ event_first i now f (cache_of s k) (cache_of s' k') p p' v w in
@@ -246,20 +245,20 @@ module _ (i : ℕ) (now : Instant) (s₀ : List Entry) (k₀ : ℕ) (b₀ b : Li
             enough = omega (arith, inv.enough);
             cache = sym (ap (λ (x : EventsIn). x.cache) e) ∙ inv.cache;
             events =
-                collect _ _ _ _ _ inv.events (slot_of v) (map slot_of (events_in f i now (cache_of s' k') p').events)
-                (ap (λ (x : EventsIn). map slot_of x.events) e) (omega (arith, inv.room, inv.blanks));
+                collect _ _ _ _ _ inv.events (v) ((events_in f i now (cache_of s' k') p').events)
+                (ap (λ (x : EventsIn). x.events) e) (omega (arith, inv.room, inv.blanks));
             looks = omega (arith, o, inv.looks);
           }
 
     pub failed : timer_of i now (get_or s p blank) ≡ Spent
-        → Probing i now s₀ k₀ b₀ (set b m (slot_of (Failed (get_or s p blank).addr))) (set s p (get_or s (k - 1) blank)) (k - 1) (m + 1) (l + 1) p
+        → Probing i now s₀ k₀ b₀ (set b m ((Failed (get_or s p blank).addr))) (set s p (get_or s (k - 1) blank)) (k - 1) (m + 1) (l + 1) p
     failed t =
         let q = is_spent i now (get_or s p blank) t in
         happened (Failed (get_or s p blank).addr) (set s p (get_or s (k - 1) blank)) (k - 1) p
         (fails i now s k p number h q.0 q.1) (length-set s p (get_or s (k - 1) blank) ∙ inv.full) (omega arith) (omega arith) (omega arith) q.0
 
     pub retransmitted : (y : Entry) → timer_of i now (get_or s p blank) ≡ Rearmed y
-        → Probing i now s₀ k₀ b₀ (set b m (slot_of (Retransmit (get_or s p blank).addr))) (set s p y) k (m + 1) (l + 1) (p + 1)
+        → Probing i now s₀ k₀ b₀ (set b m ((Retransmit (get_or s p blank).addr))) (set s p y) k (m + 1) (l + 1) (p + 1)
     retransmitted y t =
         let q = is_rearmed i now (get_or s p blank) y t in
         let w : probe_in i now (cache_of s k) p ≡ happens (Retransmit (get_or s p blank).addr) (cache_of (set s p y) k) (p + 1) =
@@ -277,9 +276,9 @@ module _ (i : ℕ) (now : Instant) (s₀ : List Entry) (k₀ : ℕ) (b₀ b : Li
     pub events_after : b₀ ≡ replicate 16 blank_event → ◌≡◌ {A = Events} (record { slots = b; len = m }) (events_table goal.events)
     unfolding events_table
     events_after z =
-        let d = collected _ _ _ _ _ inv.events (ap (λ (x : EventsIn). map slot_of x.events) ended) (omega (arith, inv.room, inv.low, inv.blanks)) in
-        ap₂ (λ (x : List EventSlot) (y : ℕ). record { slots = x; len = y })
-        (d.0 ∙ ap (λ (l : List EventSlot). filled l (map slot_of goal.events)) z) (d.1 ∙ length-map goal.events slot_of)
+        let d = collected _ _ _ _ _ inv.events (ap (λ (x : EventsIn). x.events) ended) (omega (arith, inv.room, inv.low, inv.blanks)) in
+        ap₂ (λ (x : List ProbeEvent) (y : ℕ). record { slots = x; len = y })
+        (d.0 ∙ ap (λ (l : List ProbeEvent). filled l (goal.events)) z) (d.1 ∙ refl)
 
     pub looked_after : l ≡ length (looks_from (length (take k₀ s₀)) i now (take k₀ s₀) 0)
     looked_after =

@@ -1,14 +1,14 @@
 // A sweep of an interface: one expiry pass over the whole cache, then the interface's probe events.
 #![tactic(auto)]
 
-ghost use Rattle.std.specs.Prelude.{◌≡◌};
-ghost use Rattle.sweep.specs.SweepCalls.{SweptTo};
-ghost use Rattle.sweep.specs.SweepParts.{AgedTo, timer_of};
+ghost use Rattle.std.specs.Prelude.{◌≡◌, ◌<◌, [], length};
+ghost use Rattle.sweep.specs.SweepCalls.{SweptTo, events_table};
+ghost use Rattle.sweep.specs.SweepParts.{AgedTo, timer_of, with_event};
 ghost use Rattle.sweep.specs.SweepRules.{expire_clock_state};
 
 use neighbor::{Entry, NEIGHBOR_CACHE_COUNT, NeighborCache, State};
 use time::{Clock, Instant};
-use wire::error::{Check, Outcome};
+use wire::error::Refusal;
 use wire::ipv6::Ipv6Addr;
 
 // A resolution timer that was due.
@@ -20,15 +20,10 @@ pub enum ProbeEvent {
     Failed(Ipv6Addr),
 }
 
-// An array holds structs, and no enums.
-#[derive(Clone, Copy)]
-pub struct EventSlot {
-    pub event: ProbeEvent,
-}
-
+// In order. Fixed memory: an array and a count.
 #[derive(Clone, Copy)]
 pub struct Events {
-    pub slots: [EventSlot; NEIGHBOR_CACHE_COUNT],
+    pub slots: [ProbeEvent; NEIGHBOR_CACHE_COUNT],
     pub len: usize,
 }
 
@@ -39,14 +34,7 @@ pub struct Swept {
     pub events: Events,
     // How many entries the probe part looked at.
     pub looked: usize,
-    pub outcome: Outcome,
-}
-
-// What the expiry pass makes of a state.
-#[derive(Clone, Copy)]
-struct Aged {
-    changed: bool,
-    state: State,
+    pub outcome: Result<(), Refusal>,
 }
 
 // What the probe events make of an entry.
@@ -59,51 +47,43 @@ enum Timer {
     Rearmed(Entry),
 }
 
-// The timer of a resolution that was started is set, and an expired mapping becomes stale.
-fn expire_state(state: State, now: Instant) -> Aged
+impl Events {
+    // No events.
+    #[tactic(auto, unfolding(crate::specs::SweepCalls::events_table))]
+    pub fn new() -> Events
+        ensures { result ≡ events_table [] }
+    {
+        let blank = ProbeEvent::Retransmit(Ipv6Addr { hi: 0, lo: 0 });
+        Events {
+            slots: [blank; NEIGHBOR_CACHE_COUNT],
+            len: 0,
+        }
+    }
+
+    fn push(&mut self, event: ProbeEvent)
+        requires { self.old.len < length self.old.slots }
+        ensures { self.new ≡ with_event event self.old }
+    {
+        self.slots[self.len] = event;
+        self.len += 1;
+    }
+}
+
+// What the expiry pass makes of a state, if it changes: the timer of a resolution that was started is set, and an expired mapping becomes stale.
+fn expire_state(state: State, now: Instant) -> Option<State>
     ensures { AgedTo state now result }
 {
     match state {
-        State::Started => {
-            let due = now.add(NeighborCache::RETRANS_TIMER);
-            Aged {
-                changed: true,
-                state: State::Incomplete {
-                    probes_sent: 1,
-                    retrans_at: due,
-                },
-            }
-        }
-        // Left to the probe events, which are one interface's.
-        State::Incomplete {
-            probes_sent: _,
-            retrans_at: _,
-        } => Aged {
-            changed: false,
-            state: state,
-        },
+        State::Started => Some(State::Incomplete {
+            probes_sent: 1,
+            retrans_at: now.add(NeighborCache::RETRANS_TIMER),
+        }),
         State::Reachable {
             hardware_addr,
             expires_at,
-        } => {
-            if expires_at.0 <= now.0 {
-                Aged {
-                    changed: true,
-                    state: State::Stale {
-                        hardware_addr: hardware_addr,
-                    },
-                }
-            } else {
-                Aged {
-                    changed: false,
-                    state: state,
-                }
-            }
-        }
-        State::Stale { hardware_addr: _ } => Aged {
-            changed: false,
-            state: state,
-        },
+        } if expires_at <= now => Some(State::Stale { hardware_addr }),
+        // A resolution on its way is left to the probe events, which are one interface's.
+        State::Incomplete { .. } | State::Reachable { .. } | State::Stale { .. } => None,
     }
 }
 
@@ -112,65 +92,35 @@ fn expire_clock(state: State, clock: Clock) -> Clock
     ensures { result ≡ expire_clock_state clock state }
 {
     match state {
-        State::Started => {
-            let now = clock.now;
-            let due = now.add(NeighborCache::RETRANS_TIMER);
-            time::scheduled(clock, due)
-        }
-        State::Incomplete {
-            probes_sent: _,
-            retrans_at,
-        } => {
-            let answer = time::asked(clock, retrans_at);
-            answer.clock
-        }
-        State::Reachable {
-            hardware_addr: _,
-            expires_at,
-        } => {
-            let answer = time::asked(clock, expires_at);
-            answer.clock
-        }
-        State::Stale { hardware_addr: _ } => clock,
+        State::Started => time::scheduled(clock, clock.now.add(NeighborCache::RETRANS_TIMER)),
+        State::Incomplete { retrans_at, .. } => time::asked(clock, retrans_at).clock,
+        State::Reachable { expires_at, .. } => time::asked(clock, expires_at).clock,
+        State::Stale { .. } => clock,
     }
 }
 
 // Advance the retransmission timer of an entry that is being resolved on `iface`.
+#[tactic(auto, unfolding(crate::specs::SweepParts::timer_of, crate::specs::SweepRules::due, crate::specs::SweepRules::spent, neighbor::specs::NeighborRules::on_iface))]
 fn advance(entry: Entry, iface: u8, now: Instant) -> Timer
     ensures { result ≡ timer_of iface now entry }
 {
-    let state = entry.state;
-    match state {
+    match entry.state {
         State::Incomplete {
             probes_sent,
             retrans_at,
-        } => {
-            let here = iface == entry.iface;
-            let due = retrans_at.0 <= now.0;
-            if here & due {
-                if probes_sent >= NeighborCache::MAX_MULTICAST_SOLICIT {
-                    return Timer::Spent;
-                }
-                let addr = entry.addr;
-                let next = now.add(NeighborCache::RETRANS_TIMER);
-                Timer::Rearmed(Entry {
-                    iface: entry.iface,
-                    addr: addr,
-                    state: State::Incomplete {
-                        probes_sent: probes_sent + 1,
-                        retrans_at: next,
-                    },
-                })
-            } else {
-                Timer::NotDue
+        } if iface == entry.iface && retrans_at <= now => {
+            if probes_sent >= NeighborCache::MAX_MULTICAST_SOLICIT {
+                return Timer::Spent;
             }
+            Timer::Rearmed(Entry {
+                state: State::Incomplete {
+                    probes_sent: probes_sent + 1,
+                    retrans_at: now.add(NeighborCache::RETRANS_TIMER),
+                },
+                ..entry
+            })
         }
-        State::Started => Timer::NotDue,
-        State::Reachable {
-            hardware_addr: _,
-            expires_at: _,
-        } => Timer::NotDue,
-        State::Stale { hardware_addr: _ } => Timer::NotDue,
+        _ => Timer::NotDue,
     }
 }
 
@@ -179,88 +129,52 @@ pub fn sweep_at(mut cache: NeighborCache, mut clock: Clock, iface: u8) -> Swept
     ensures { SweptTo cache clock iface result }
 {
     let now = clock.now;
-    let nowhere = Ipv6Addr { hi: 0, lo: 0 };
-    let blank = EventSlot {
-        event: ProbeEvent::Retransmit(nowhere),
-    };
-    let mut events = [blank; NEIGHBOR_CACHE_COUNT];
-    let check = wire::error::check_time(now, iface);
-    match check {
-        Check::Refused(why) => {
-            return Swept {
-                cache: cache,
-                clock: clock,
-                events: Events {
-                    slots: events,
-                    len: 0,
-                },
-                looked: 0,
-                outcome: Outcome::Refused(why),
-            };
-        }
-        Check::Fine => {}
+    let mut events = Events::new();
+    if let Err(why) = wire::error::check_time(now, iface) {
+        return Swept {
+            cache,
+            clock,
+            events,
+            looked: 0,
+            outcome: Err(why),
+        };
     }
     let mut len = table::count_of(cache.len, NEIGHBOR_CACHE_COUNT);
-    let mut i = 0;
-    while i < len {
-        let entry = cache.slots[i];
-        let state = entry.state;
-        let aged = expire_state(state, now);
+    // By index: the entry that is read is written too.
+    for i in 0..len {
+        let state = cache.slots[i].state;
         clock = expire_clock(state, clock);
-        let at = i;
-        i += 1;
-        if aged.changed {
-            let addr = entry.addr;
-            let aged_state = aged.state;
-            let aged_entry = Entry {
-                iface: entry.iface,
-                addr: addr,
-                state: aged_state,
-            };
-            cache.slots[at] = aged_entry;
+        if let Some(aged) = expire_state(state, now) {
+            cache.slots[i].state = aged;
         }
     }
-    let mut count = 0;
     let mut looked = 0;
     let mut place = 0;
+    // No `for`: a failure leaves the place as it is, and the table shorter.
     while place < len {
-        let at = place;
-        place += 1;
-        let entry = cache.slots[at];
         looked += 1;
-        let addr = entry.addr;
-        let timer = advance(entry, iface, now);
-        match timer {
-            Timer::NotDue => {}
+        let entry = cache.slots[place];
+        match advance(entry, iface, now) {
+            Timer::NotDue => place += 1,
             Timer::Spent => {
                 // What stood last fills the hole, and its turn is next.
-                let last = cache.slots[len - 1];
-                cache.slots[at] = last;
+                cache.slots[place] = cache.slots[len - 1];
                 len -= 1;
-                place = at;
-                events[count] = EventSlot {
-                    event: ProbeEvent::Failed(addr),
-                };
-                count += 1;
+                events.push(ProbeEvent::Failed(entry.addr));
             }
             Timer::Rearmed(rearmed) => {
-                cache.slots[at] = rearmed;
-                events[count] = EventSlot {
-                    event: ProbeEvent::Retransmit(addr),
-                };
-                count += 1;
+                cache.slots[place] = rearmed;
+                place += 1;
+                events.push(ProbeEvent::Retransmit(entry.addr));
             }
         }
     }
     cache.len = len;
     Swept {
-        cache: cache,
-        clock: clock,
-        events: Events {
-            slots: events,
-            len: count,
-        },
-        looked: looked,
-        outcome: Outcome::Done,
+        cache,
+        clock,
+        events,
+        looked,
+        outcome: Ok(()),
     }
 }

@@ -1,5 +1,5 @@
 -- Laws of `kept`, for any element type. Assumes nothing.
-use Prim.Native.Nat.{ℕ, zero, suc, ◌+◌, ◌≤◌, ◌<◌}
+use Prim.Native.Nat.{ℕ, zero, suc, ◌+◌, ◌<◌}
 use lib.ListN.{length, get_or, drop}
 use lib.Seq.{drop-append_seam}
 use mathlib.Core.Bool.{Bool, true, false, cond, ◌||◌, not, true≢false}
@@ -10,14 +10,6 @@ use Rattle.table.specs.Kept.{Interleaved, none, from_first, from_second, InOrder
 use Rattle.table.specs.Table.{filled, kept, dropped, any_of, fold_over}
 
 module _ {A : Type 0} where
-  pub kept_length : (gone : A → Bool) (xs : List A) → length (kept gone xs) ≤ length xs
-  kept_length gone [] = omega arith
-  kept_length gone (x ∷ xs) = go (gone x) (kept_length gone xs)
-    where
-      go : (b : Bool) → length (kept gone xs) ≤ length xs → length (cond b (kept gone xs) (x ∷ kept gone xs)) ≤ suc (length xs)
-      go true h = omega arith
-      go false h = omega arith
-
   pub kept_passes : (d : A) (gone : A → Bool) (xs : List A) (i : ℕ) → i < length (kept gone xs) → gone (get_or (kept gone xs) i d) ≡ false
   kept_passes d gone [] i h = absurd (omega arith)
   kept_passes d gone (x ∷ xs) i h = go (gone x) refl (λ j k. kept_passes d gone xs j k) i h

@@ -1,10 +1,10 @@
 -- Laws of any table: `s` the slots, `n` the field `len`, `k` the number of entries.
 use Prim.Native.Nat.compare
 use Prim.Native.Nat.{ℕ, suc, zero, ◌+◌, ◌-◌, ◌<◌, ◌≤◌, min}
-use borrow.Author.Tests.{lt-ltb, le-ltb}
+use borrow.Author.Tests.{lt-ltb}
 use lib.Dec.{ltb}
 use lib.ListN.{length, take, drop, get_or, set, length-take, length-map, length-set, length-append, take-append-drop, drop_of_length-le}
-use lib.Seq.{drop-cons, take-suc, take_all, set_split, get_or-take, get_or-drop, take-set-lt, drop-set-lt, take-suc-set, take-take, set-get_or, drop-drop, length-take-le}
+use lib.Seq.{drop-cons, take_all, set_split, get_or-take, get_or-drop, take-set-lt, drop-set-lt, take-suc-set, take-take, set-get_or, drop-drop, length-take-le}
 use mathlib.Core.Bool.{Bool, true, false, cond}
 use mathlib.Core.List.{List, [], ◌∷◌, ◌++◌, map, append_assoc, append-nil}
 use mathlib.Core.Logic.{⊎_elim}
@@ -113,7 +113,7 @@ module _ {A : Type 0} (s : List A) (n k : ℕ) (e : k ≡ length (take n s)) whe
       swap_array i m (take n s) d (omega arith) (omega arith) ∙ ap (λ (l : List A). swap_remove i l) (take_all (suc m) (take n s) (omega arith)) in
       ap length (sym w) ∙ omega (arith, length-take m (set (take n s) i (get_or (take n s) m d)), length-set (take n s) i (get_or (take n s) m d))
 
--- Compaction, with the dropped entries collected: `w` slots are written and `i` read, `b` holds the dropped ones
+-- Compaction: `w` slots are written and `i` read
 
 pub record Keeping {A : Type 0} (gone : A → Bool) (s₀ : List A) (n : ℕ) (s : List A) (w i : ℕ) : Type 0 where
   pub low : w ≤ i
@@ -144,7 +144,8 @@ module _ {A : Type 0} (d : A) (gone : A → Bool) (s₀ : List A) (n : ℕ) (s :
         rest = drop-set-lt (w + 1) s w x (omega arith) ∙ agree_from s s₀ w inv.rest;
       }
 
-  -- at the end: the slots, and the count
+-- at the end: the slots, and the count
+module _ {A : Type 0} (gone : A → Bool) (s₀ : List A) (n : ℕ) (s : List A) (w i : ℕ) (inv : Keeping gone s₀ n s w i) where
   pub all_kept : length (take n s₀) ≤ i → w ≤ length s₀ → (s ≡ filled s₀ (kept gone (take n s₀))) × (w ≡ length (kept gone (take n s₀)))
   all_kept h hw =
       let e : take w s ≡ kept gone (take n s₀) = sym (append-nil (take w s)) ∙ (simp (drop_of_length-le (take n s₀) h) at inv.so_far) in
@@ -193,23 +194,6 @@ pub seek : {A : Type 0} (test : A → Bool) (f : A → List A) (new es : List A)
 seek test f new es = record { so_far = refl; any = refl }
 
 module _ {A : Type 0} (d : A) (test : A → Bool) (f : A → List A) (new s : List A) (n i : ℕ) (inv : Seeking test f new (take n s) i) where
-  pub passed : i < length (take n s) → test (get_or s i d) ≡ false → Seeking test f new (take n s) (i + 1)
-  passed h g =
-      let x : A = get_or s i d in
-      let es : List A = take n s in
-      let tail : List A = at_first_is test f new (drop (i + 1) es) in
-      let e : drop i es ≡ x ∷ drop (i + 1) es = entries_from d s n i h in
-      let t : take (i + 1) es ≡ take i es ++ (x ∷ []) =
-      rw (add-one i) (take-suc es i d h ∙ ap (λ (y : A). take i es ++ (y ∷ [])) (entry_at d s n i h)) in
-      let a : at_first_is test f new (drop i es) ≡ x ∷ tail = simp (e, g) in
-      let b : any_of test (drop i es) ≡ any_of test (drop (i + 1) es) = simp (e, g) in
-      record {
-        so_far =
-            ap (λ (l : List A). l ++ tail) t
-            ∙ (append_assoc (take i es) (x ∷ []) tail ∙ (ap (λ (l : List A). take i es ++ l) (sym a) ∙ inv.so_far));
-        any = sym b ∙ inv.any;
-      }
-
   module _ (h : i < length (take n s)) (g : test (get_or s i d) ≡ true) where
     pub hit : take i (take n s) ++ (f (get_or s i d) ++ drop (i + 1) (take n s)) ≡ at_first_is test f new (take n s)
     hit =
@@ -268,46 +252,6 @@ module _ {A : Type 0} (d : A) (test : A → Bool) (f : A → List A) (new s : Li
           count = e ∙ ap length w;
         }
 
--- Later entries move down by one: `j` is the hole
-pub record Shifting {A : Type 0} (s₀ : List A) (n i : ℕ) (s : List A) (j : ℕ) : Type 0 where
-  pub long : length s ≡ length s₀
-  pub done : take j s ++ drop (j + 1) (take n s₀) ≡ without (take n s₀) i
-  pub rest : drop j s ≡ drop j s₀
-
-pub shifting : {A : Type 0} (s₀ : List A) (n i : ℕ) → i < length (take n s₀) → Shifting s₀ n i s₀ i
-shifting {A} s₀ n i h =
-    let hl : i ≤ n = omega (arith, length-take n s₀) in
-    record { long = refl; done = ap (λ (l : List A). l ++ drop (i + 1) (take n s₀)) (sym (take-take i n s₀ hl)); rest = refl }
-
-module _ {A : Type 0} (d : A) (s₀ : List A) (n i : ℕ) (s : List A) (j : ℕ) (inv : Shifting s₀ n i s j) where
-  pub shift_step : (m : ℕ) → m ≡ j + 1 → m < length (take n s₀) → Shifting s₀ n i (set s j (get_or s m d)) m
-  shift_step m e h =
-      let x : A = get_or s m d in
-      let es : List A = take n s₀ in
-      let lj : j < length s = omega (arith, inv.long, length-take n s₀) in
-      let one : take m (set s j x) ≡ take j s ++ (x ∷ []) = ap (λ (p : ℕ). take p (set s j x)) (e ∙ add-one j) ∙ take-suc-set s j x lj in
-      let tail : List A = drop (m + 1) es in
-      let at-m : drop m es ≡ x ∷ tail =
-      entries_from d s₀ n m h ∙ ap (λ (y : A). y ∷ tail) (sym (agree s s₀ j m d (omega arith) inv.rest)) in
-      let old : take j s ++ drop m es ≡ without es i = ap (λ (p : ℕ). take j s ++ drop p es) e ∙ inv.done in
-      record {
-        long = length-set s j x ∙ inv.long;
-        done =
-            ap (λ (l : List A). l ++ tail) one
-            ∙ (append_assoc (take j s) (x ∷ []) tail ∙ (ap (λ (l : List A). take j s ++ l) (sym at-m) ∙ old));
-        rest =
-            drop-set-lt m s j x (omega arith)
-            ∙ (ap (λ (p : ℕ). drop p s) e ∙ (agree_from s s₀ j inv.rest ∙ ap (λ (p : ℕ). drop p s₀) (sym e)));
-      }
-
-  pub shifted : j + 1 ≡ length (take n s₀) → Made s₀ (without (take n s₀) i) s j
-  shifted e =
-      let es : List A = take n s₀ in
-      let hl : length es ≤ j + 1 = omega arith in
-      let p : take j s ≡ without es i = sym (append-nil (take j s)) ∙ (simp (drop_of_length-le es hl) at inv.done) in
-      let l : length (without es i) ≡ j = ap length (sym p) ∙ length-take-le j s (omega (arith, inv.long, length-take n s₀)) in
-      record { slots = made s₀ s (without es i) j l p inv.rest; count = sym l }
-
 -- The loop of a search in a table: `k` is its count, `i` the next place
 pub record Finding {A : Type 0} (size : ℕ) (test : A → Bool) (f : A → List A) (new s : List A) (n k i : ℕ) : Type 0 where
   pub low : i ≤ k
@@ -319,26 +263,11 @@ pub record Finding {A : Type 0} (size : ℕ) (test : A → Bool) (f : A → List
 pub counted : {A : Type 0} (s : List A) (n size k : ℕ) → length s ≡ size → k ≡ min n size → k ≡ length (take n s)
 counted s n size k full e = omega (arith, length-take n s)
 
-pub finding : {A : Type 0} (size : ℕ) (test : A → Bool) (f : A → List A) (new s : List A) (n k : ℕ) → length s ≡ size → k ≡ min n size
-    → Finding size test f new s n k 0
-finding size test f new s n k full e =
-    record { low = omega arith; most = omega arith; full = full; count = counted s n size k full e; seeking = seek test f new (take n s) }
-
 module _ {A : Type 0} (d : A) {size : ℕ} {test : A → Bool} {f : A → List A} {new s : List A} {n k i : ℕ}
     (inv : Finding size test f new s n k i) where
   module _ (h : i < k) where
     within : i < length (take n s)
     within = omega (arith, inv.count)
-
-    pub find_next : test (get_or s i d) ≡ false → Finding size test f new s n k (i + 1)
-    find_next g =
-        record {
-          low = omega arith;
-          most = inv.most;
-          full = inv.full;
-          count = inv.count;
-          seeking = passed d test f new s n i inv.seeking within g;
-        }
 
     module _ (g : test (get_or s i d) ≡ true) where
       pub found_over : (y : A) → f (get_or s i d) ≡ y ∷ [] → Made s (at_first_is test f new (take n s)) (set s i y) k
@@ -366,86 +295,6 @@ module _ {A : Type 0} (d : A) {size : ℕ} {test : A → Bool} {f : A → List A
     pub absent_any : any_of test (take n s) ≡ false
     absent_any = missed_any d test f new s n i inv.seeking past
 
--- The loop that moves later entries down
-pub record Moving {A : Type 0} (size : ℕ) (s₀ : List A) (n i k : ℕ) (s : List A) (j next : ℕ) : Type 0 where
-  pub step : next ≡ j + 1
-  pub top : next ≤ k
-  pub most : k ≤ size
-  pub full : length s ≡ size
-  pub count : k ≡ length (take n s₀)
-  pub hole_at : Shifting s₀ n i s j
-
-pub moving : {A : Type 0} (size : ℕ) (s₀ : List A) (n i k : ℕ) → length s₀ ≡ size → k ≡ min n size → i < k
-    → Moving size s₀ n i k s₀ i (i + 1)
-moving size s₀ n i k full e h =
-    let q = counted s₀ n size k full e in
-    record { step = refl; top = omega arith; most = omega arith; full = full; count = q; hole_at = shifting s₀ n i (omega arith) }
-
-module _ {A : Type 0} (d : A) {size : ℕ} {s₀ : List A} {n i k : ℕ} {s : List A} {j next : ℕ} (inv : Moving size s₀ n i k s j next) where
-  pub move_on : next < k → Moving size s₀ n i k (set s j (get_or s next d)) next (next + 1)
-  move_on h =
-      record {
-        step = refl;
-        top = omega arith;
-        most = inv.most;
-        full = length-set s j (get_or s next d) ∙ inv.full;
-        count = inv.count;
-        hole_at = shift_step d s₀ n i s j inv.hole_at next inv.step (omega (arith, inv.count));
-      }
-
-  pub moved : k ≤ next → Made s₀ (without (take n s₀) i) s j
-  moved h = shifted d s₀ n i s j inv.hole_at (omega (arith, inv.count, inv.step, inv.top))
-
--- The loop that keeps what is not gone
-pub record Compacting {A : Type 0} (size : ℕ) (gone : A → Bool) (s₀ : List A) (n k : ℕ) (s : List A) (w i : ℕ) : Type 0 where
-  pub low : i ≤ k
-  pub behind : w ≤ i
-  pub most : k ≤ size
-  pub full : length s ≡ size
-  pub count : k ≡ length (take n s₀)
-  pub keeping : Keeping gone s₀ n s w i
-
-pub compacting : {A : Type 0} (size : ℕ) (gone : A → Bool) (s : List A) (n k : ℕ) → length s ≡ size → k ≡ min n size
-    → Compacting size gone s n k s 0 0
-compacting size gone s n k full e =
-    record {
-      low = omega arith;
-      behind = omega arith;
-      most = omega arith;
-      full = full;
-      count = counted s n size k full e;
-      keeping = record { low = omega arith; long = refl; so_far = refl; rest = refl };
-    }
-
-module _ {A : Type 0} (d : A) {size : ℕ} {gone : A → Bool} {s₀ : List A} {n k : ℕ} {s : List A} {w i : ℕ}
-    (inv : Compacting size gone s₀ n k s w i) where
-  pub one_gone : i < k → gone (get_or s i d) ≡ true → Compacting size gone s₀ n k s w (i + 1)
-  one_gone h g =
-      record {
-        low = omega arith;
-        behind = omega (arith, inv.behind);
-        most = inv.most;
-        full = inv.full;
-        count = inv.count;
-        keeping = drops d gone s₀ n s w i inv.keeping (omega (arith, inv.count)) g;
-      }
-
-  pub one_kept : i < k → gone (get_or s i d) ≡ false → Compacting size gone s₀ n k (set s w (get_or s i d)) (w + 1) (i + 1)
-  one_kept h g =
-      record {
-        low = omega arith;
-        behind = omega (arith, inv.behind);
-        most = inv.most;
-        full = length-set s w (get_or s i d) ∙ inv.full;
-        count = inv.count;
-        keeping = keeps d gone s₀ n s w i inv.keeping (omega (arith, inv.count)) g;
-      }
-
-  pub compacted : k ≤ i → Made s₀ (kept gone (take n s₀)) s w
-  compacted h =
-      let a = all_kept d gone s₀ n s w i inv.keeping (omega (arith, inv.count)) (omega (arith, inv.behind, inv.low, inv.most, inv.full, inv.keeping.long)) in
-      record { slots = a.0; count = a.1 }
-
 -- The loop that looks for the first entry, to answer
 pub record Scanning {A B : Type 0} (size : ℕ) (test : A → Bool) (f : A → B) (none : B) (s : List A) (n k i : ℕ) : Type 0 where
   pub low : i ≤ k
@@ -454,21 +303,11 @@ pub record Scanning {A B : Type 0} (size : ℕ) (test : A → Bool) (f : A → B
   pub count : k ≡ length (take n s)
   pub same : first_of test f none (drop i (take n s)) ≡ first_of test f none (take n s)
 
-pub scanning : {A B : Type 0} (size : ℕ) (test : A → Bool) (f : A → B) (none : B) (s : List A) (n k : ℕ) → length s ≡ size → k ≡ min n size
-    → Scanning size test f none s n k 0
-scanning size test f none s n k full e =
-    record { low = omega arith; most = omega arith; full = full; count = counted s n size k full e; same = refl }
-
 module _ {A B : Type 0} (d : A) {size : ℕ} {test : A → Bool} {f : A → B} {none : B} {s : List A} {n k i : ℕ}
     (inv : Scanning size test f none s n k i) where
   module _ (h : i < k) where
     here : drop i (take n s) ≡ get_or s i d ∷ drop (i + 1) (take n s)
     here = entries_from d s n i (omega (arith, inv.count))
-
-    pub scan_next : test (get_or s i d) ≡ false → Scanning size test f none s n k (i + 1)
-    scan_next g =
-        let a : first_of test f none (drop i (take n s)) ≡ first_of test f none (drop (i + 1) (take n s)) = simp (here, g) in
-        record { low = omega arith; most = inv.most; full = inv.full; count = inv.count; same = sym a ∙ inv.same }
 
     pub scan_found : test (get_or s i d) ≡ true → f (get_or s i d) ≡ first_of test f none (take n s)
     scan_found g = let a : first_of test f none (drop i (take n s)) ≡ f (get_or s i d) = simp (here, g) in sym a ∙ inv.same
@@ -486,11 +325,6 @@ pub record Folding {A B : Type 0} (size : ℕ) (step : B → A → B) (b₀ : B)
   pub full : length s ≡ size
   pub count : k ≡ length (take n s)
   pub same : fold_over step b (drop i (take n s)) ≡ fold_over step b₀ (take n s)
-
-pub folding : {A B : Type 0} (size : ℕ) (step : B → A → B) (b₀ : B) (s : List A) (n k : ℕ) → length s ≡ size → k ≡ min n size
-    → Folding size step b₀ s n k 0 b₀
-folding size step b₀ s n k full e =
-    record { low = omega arith; most = omega arith; full = full; count = counted s n size k full e; same = refl }
 
 module _ {A B : Type 0} (d : A) {size : ℕ} {step : B → A → B} {b₀ : B} {s : List A} {n k i : ℕ} {b : B}
     (inv : Folding size step b₀ s n k i b) where
@@ -520,10 +354,6 @@ pub record Mapping {A : Type 0} (size : ℕ) (f : A → A) (s₀ : List A) (n k 
   pub count : k ≡ length (take n s₀)
   pub done : take i s ++ map f (drop i (take n s₀)) ≡ map f (take n s₀)
   pub rest : drop i s ≡ drop i s₀
-
-pub mapping : {A : Type 0} (size : ℕ) (f : A → A) (s : List A) (n k : ℕ) → length s ≡ size → k ≡ min n size → Mapping size f s n k s 0
-mapping size f s n k full e =
-    record { low = omega arith; most = omega arith; full = full; count = counted s n size k full e; done = refl; rest = refl }
 
 module _ {A : Type 0} (d : A) {size : ℕ} {f : A → A} {s₀ : List A} {n k : ℕ} {s : List A} {i : ℕ} (inv : Mapping size f s₀ n k s i) where
   -- the entry that is read is the old one
@@ -560,18 +390,6 @@ module _ {A : Type 0} (d : A) {size : ℕ} {f : A → A} {s₀ : List A} {n k : 
       let p : take i s ≡ map f es = sym (append-nil (take i s)) ∙ (simp (drop_of_length-le es l) at inv.done) in
       let c : length (map f es) ≡ i = length-map es f ∙ omega (arith, inv.count) in
       record { slots = made s₀ s (map f es) i c p inv.rest; count = sym (c ∙ e) }
-
--- The entry at an index, for a listing
-module _ {A B : Type 0} (d : A) (f : A → B) (none : B) (s : List A) (n size k i : ℕ) (full : length s ≡ size) (e : k ≡ min n size) where
-  pub at_entry : i < k → f (get_or s i d) ≡ cond (ltb i (length (take n s))) (f (get_or (take n s) i d)) none
-  at_entry h =
-      let l : i < length (take n s) = omega (arith, counted s n size k full e) in
-      rw (lt-ltb i (length (take n s)) l, entry_at d s n i l)
-
-  pub at_none : k ≤ i → none ≡ cond (ltb i (length (take n s))) (f (get_or (take n s) i d)) none
-  at_none h =
-      let l : length (take n s) ≤ i = omega (arith, counted s n size k full e) in
-      rw (le-ltb i (length (take n s)) l)
 
 -- Fewer are kept exactly if some are gone
 module _ {A : Type 0} (gone : A → Bool) where

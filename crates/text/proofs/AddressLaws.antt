@@ -1,72 +1,58 @@
--- Laws of addresses and messages in hexadecimal. Assumes nothing.
-use Prim.Native.Nat.{ℕ, ◌*◌, ◌/◌, ◌≤◌, ◌<◌}
-use borrow.Author.Tests.{eq-eqb, ne_eqb, lt-ltb, le-ltb}
-use lib.ListN.{length, drop_of_length-le}
-use mathlib.Core.List.{List, append-nil}
-use mathlib.Core.Path.{◌≡◌, refl, sym, ap, ◌∙◌}
+-- Laws of messages in hexadecimal. Assumes nothing.
+use Prim.Native.Nat.{ℕ, ◌*◌, ◌/◌}
+use borrow.Author.Tests.{eq-eqb, ne_eqb}
+use lib.Dec.{eqb, ltb}
+use lib.ListN.{length}
+use mathlib.Core.Bool.{Bool, true, false, cond}
+use mathlib.Core.List.{List, [], ◌∷◌}
+use mathlib.Core.Path.{◌≡◌, refl, sym, ◌∙◌}
 use native.Mathlib.Omega.{arith}
+use Rattle.std.proofs.lemmas.Option.{none-some, same_Some}
+use Rattle.std.specs.Prelude.{Option, Some, None}
 use Rattle.table.specs.Table.{filled}
-use Rattle.text.specs.Addresses.{address_of, hardware_of, message_of, MessageRead}
+use Rattle.text.proofs.HexLaws.{none_of}
+use Rattle.text.specs.Addresses.{message_of, MessageRead}
 use Rattle.text.specs.Hex.{unhexed, Unhexed}
-use Rattle.text.specs.declared.address.Address.TheVariants.{Value as Addr}
-use Rattle.text.specs.declared.address.Hardware.TheVariants.{Value as Hw}
-use Rattle.text.specs.declared.address.Message.TheVariants.{Bytes, Bad as NoMessage}
-use Rattle.wire.specs.Rfc2464.{hardware_at}
-use Rattle.wire.specs.Rfc4291.{address_at}
-use Rattle.wire.specs.declared.ethernet.HardwareAddress.{HardwareAddress}
-use Rattle.wire.specs.declared.ipv6.Ipv6Addr.{Ipv6Addr}
 
--- what fills a buffer is all of it
-whole : (u sp zs : List ℕ) (k : ℕ) → sp ≡ filled zs u → length u ≡ k → length zs ≡ k → sp ≡ u
-whole u sp zs k p h z = p ∙ rw (drop_of_length-le zs {i = length u} (omega arith)) (append-nil u)
+none_by : (t z v : Bool) (n : ℕ) → cond t None (cond v (Some n) None) ≡ None → None ≡ cond t None (cond z None (cond v (Some n) None))
+none_by true z v n e = refl
+none_by false true v n e = refl
+none_by false false v n e = sym e
 
-pub address_good : (s sp zs : List ℕ) (n : ℕ) (a : Ipv6Addr) → length s ≡ 32 → Unhexed s zs n sp → n ≡ 16 → length zs ≡ 16
-    → a ≡ address_at sp 0 → Addr a ≡ address_of s
-unfolding address_of
-address_good s sp zs n a h w m z e =
-    let u = whole (unhexed s) sp zs 16 w.is (sym w.count ∙ m) z in
-    rw (eq-eqb (length s) 32 h, eq-eqb (length (unhexed s)) 16 (sym w.count ∙ m)) (ap Addr (e ∙ ap (λ (l : List ℕ). address_at l 0) u))
+some_by : (t v : Bool) (n k : ℕ) → cond t None (cond v (Some n) None) ≡ Some k → (k ≡ n) × (Some k ≡ cond t None (cond false None (cond v (Some n) None)))
+some_by true v n k e = absurd (none-some k e)
+some_by false true n k e = (sym (same_Some n k e), sym e)
+some_by false false n k e = absurd (none-some k e)
 
-pub hardware_good : (s sp zs : List ℕ) (n : ℕ) (a : HardwareAddress) → length s ≡ 12 → Unhexed s zs n sp → n ≡ 6 → length zs ≡ 6
-    → a ≡ hardware_at sp 0 → Hw a ≡ hardware_of s
-unfolding hardware_of
-hardware_good s sp zs n a h w m z e =
-    let u = whole (unhexed s) sp zs 6 w.is (sym w.count ∙ m) z in
-    rw (eq-eqb (length s) 12 h, eq-eqb (length (unhexed s)) 6 (sym w.count ∙ m)) (ap Hw (e ∙ ap (λ (l : List ℕ). hardware_at l 0) u))
+empty : (l : List ℕ) → length l ≡ 0 → l ≡ []
+empty [] e = refl
+empty (x ∷ l) e = absurd (omega arith)
 
--- ---- messages
-
-module _ (s out : List ℕ) where
-  pub message_long : length out < length s / 2 → MessageRead s out NoMessage out
+module _ (s out out' : List ℕ) (r : Option ℕ) (w : Unhexed s out r out') where
+  pub message_none : r ≡ None → MessageRead s out None out'
   unfolding message_of
-  message_long h = record { is = simp (lt-ltb (length out) (length s / 2) h); bytes = refl }
+  message_none e =
+      record {
+        is = none_by (ltb (length out) (length s / 2)) (eqb (length (unhexed s)) 0) (eqb (2 * length (unhexed s)) (length s)) (length (unhexed s)) (sym w.is ∙ e);
+        bytes = rw e at w.bytes;
+      }
 
-  module _ (n : ℕ) (h : length s / 2 ≤ length out) (e : n ≡ length (unhexed s)) where
-    pub message_none : n ≡ 0 → MessageRead s out NoMessage out
-    unfolding message_of
-    message_none z =
-        record { is = simp (le-ltb (length out) (length s / 2) h, eq-eqb (length (unhexed s)) 0 (sym e ∙ z)); bytes = refl }
+  module _ (k : ℕ) (e : r ≡ Some k) where
+    count : (k ≡ length (unhexed s))
+        × (Some k ≡ cond (ltb (length out) (length s / 2)) None (cond false None (cond (eqb (2 * length (unhexed s)) (length s)) (Some (length (unhexed s))) None)))
+    count = some_by (ltb (length out) (length s / 2)) (eqb (2 * length (unhexed s)) (length s)) (length (unhexed s)) k (sym w.is ∙ e)
 
-    pub message_odd : (n ≡ 0 → ⊥) → (2 * n ≡ length s → ⊥) → MessageRead s out NoMessage out
+    pub message_zero : k ≡ 0 → MessageRead s out None out'
     unfolding message_of
-    message_odd z o =
+    message_zero z =
+        let n : length (unhexed s) ≡ 0 = sym count.0 ∙ z in
+        let b : out' ≡ filled out (unhexed s) = rw e at w.bytes in
         record {
-          is = simp (
-            le-ltb (length out) (length s / 2) h,
-            ne_eqb (length (unhexed s)) 0 (λ q. z (e ∙ q)),
-            ne_eqb (2 * length (unhexed s)) (length s) (λ q. o (omega (arith, e, q))),
-          );
-          bytes = refl;
+          is = rw (eq-eqb (length (unhexed s)) 0 n) (sym (none_of (ltb (length out) (length s / 2))));
+          bytes = rw (empty (unhexed s) n) at b;
         }
 
-    pub message_good : (n ≡ 0 → ⊥) → 2 * n ≡ length s → (k : ℕ) (out' : List ℕ) → Unhexed s out k out' → MessageRead s out (Bytes k) out'
+    pub message_some : (k ≡ 0 → ⊥) → MessageRead s out (Some k) out'
     unfolding message_of
-    message_good z o k out' w =
-        record {
-          is = simp (
-            le-ltb (length out) (length s / 2) h,
-            ne_eqb (length (unhexed s)) 0 (λ q. z (e ∙ q)),
-            eq-eqb (2 * length (unhexed s)) (length s) (omega (arith, e)),
-          ) (ap Bytes w.count);
-          bytes = w.is;
-        }
+    message_some z =
+        record { is = rw (ne_eqb (length (unhexed s)) 0 (λ q. z (count.0 ∙ q))) count.1; bytes = rw e at w.bytes }

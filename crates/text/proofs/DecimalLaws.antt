@@ -12,9 +12,10 @@ use native.Mathlib.Numerals.{add-one}
 use native.Mathlib.Omega.{arith}
 use Rattle.io.specs.Digits.{last_digits, IsDigitCount}
 use Rattle.text.specs.Decimal.{digit_of, all_digits, value_from, read_from, number_of, decimal_by, decimal}
-use Rattle.text.specs.declared.number.Number.TheVariants.{Value, Bad}
+use Rattle.std.specs.Char.{digit_value}
+use Rattle.std.specs.Prelude.{Option, Some, None}
 
-pub num_step : (s : List ℕ) (v i d : ℕ) → i < length s → d ≡ digit_of (get_or s i 0) → d < 10
+num_step : (s : List ℕ) (v i d : ℕ) → i < length s → d ≡ digit_of (get_or s i 0) → d < 10
     → read_from v (drop i s) ≡ read_from (v * 10 + d) (drop (i + 1) s)
 num_step s v i d h e k =
     let t : ltb (digit_of (get_or s i 0)) 10 ≡ true = rw (← e) (lt-ltb d 10 k) in
@@ -24,17 +25,60 @@ grows : (s : List ℕ) (v : ℕ) → v ≤ value_from v s
 grows [] v = omega arith
 grows (d ∷ ds) v = let g = grows ds (v * 10 + digit_of d) in omega arith
 
-either : (b : Bool) → cond b Bad Bad ≡ Bad
+either : (b : Bool) → cond {A = Option ℕ} b None None ≡ None
 either true = refl
 either false = refl
 
-pub num_big : (s : List ℕ) (v : ℕ) → 18446744073709551616 ≤ v → read_from v s ≡ Bad
+num_big : (s : List ℕ) (v : ℕ) → 18446744073709551616 ≤ v → read_from v s ≡ None
 num_big s v h =
     let g = grows s v in
     simp (le-ltb (value_from v s) 18446744073709551616 (omega arith)) (either (all_digits s))
 
 pub num_begin : (s : List ℕ) → (length s ≡ 0 → ⊥) → number_of s ≡ read_from 0 s
 num_begin s h = simp (ne_eqb (length s) 0 h)
+
+-- ---- std's digits
+
+high_by : (c : ℕ) (t u v w : Bool) → ltb c 65 ≡ t → ltb c 97 ≡ v → 58 ≤ c → 10 ≤ cond t 36 (cond u (c - 55) (cond v 36 (cond w (c - 87) 36)))
+high_by c true u v w e f h = omega arith
+high_by c false true v w e f h = let k = ltb-false c 65 e in omega arith
+high_by c false false true w e f h = omega arith
+high_by c false false false true e f h = let k = ltb-false c 97 f in omega arith
+high_by c false false false false e f h = omega arith
+
+-- what the tests of both definitions make of c
+std_low : (c : ℕ) → c < 48 → (digit_value c ≡ 36) × (digit_of c ≡ 10)
+std_low c h = (simp (lt-ltb c 48 h), simp (lt-ltb c 48 h))
+
+std_mid : (c : ℕ) → 48 ≤ c → c ≤ 57 → (digit_value c ≡ c - 48) × (digit_of c ≡ c - 48)
+std_mid c h k = (simp (le-ltb c 48 h, lt-ltb c 58 (omega arith)), simp (le-ltb c 48 h, le-ltb 57 c k))
+
+std_high : (c : ℕ) → 58 ≤ c → (10 ≤ digit_value c) × (digit_of c ≡ 10)
+std_high c h = (
+  simp (le-ltb c 48 (omega arith), le-ltb c 58 h) (high_by c (ltb c 65) (ltb c 91) (ltb c 97) (ltb c 123) refl refl h),
+  simp (le-ltb c 48 (omega arith), lt-ltb 57 c (omega arith)),
+)
+
+std_by : (c : ℕ) (t u : Bool) → ltb c 48 ≡ t → ltb c 58 ≡ u → digit_value c < 10 → digit_value c ≡ digit_of c
+std_by c true u e f h = let w = std_low c (ltb-true c 48 e) in omega arith
+std_by c false true e f h =
+    let k = ltb-true c 58 f in
+    let w = std_mid c (ltb-false c 48 e) (omega arith) in
+    omega arith
+std_by c false false e f h = let w = std_high c (ltb-false c 58 f) in omega arith
+
+std_digit : (c : ℕ) → digit_value c < 10 → digit_value c ≡ digit_of c
+std_digit c h = std_by c (ltb c 48) (ltb c 58) refl refl h
+
+-- a digit more
+num_next : (s : List ℕ) (v i : ℕ) → i < length s → digit_value (get_or s i 0) < 10
+    → read_from v (drop i s) ≡ read_from (v * 10 + digit_value (get_or s i 0)) (drop (i + 1) s)
+num_next s v i h k = num_step s v i (digit_value (get_or s i 0)) h (std_digit (get_or s i 0) k) k
+
+-- one that makes it too large
+pub num_over : (s : List ℕ) (v i : ℕ) → i < length s → digit_value (get_or s i 0) < 10 → 18446744073709551616 ≤ v * 10 + digit_value (get_or s i 0)
+    → read_from v (drop i s) ≡ None
+num_over s v i h k o = num_next s v i h k ∙ num_big (drop (i + 1) s) (v * 10 + digit_value (get_or s i 0)) o
 
 -- ---- writing
 
@@ -130,7 +174,7 @@ filled_by_lem f n false e = omega (arith, simp length-append at e)
 filled : (f n : ℕ) → length (decimal_by (suc f) n) ≡ 0 → ⊥
 filled f n e = filled_by_lem f n (ltb n 10) e
 
-pub decimal_back : (n : ℕ) → n < 18446744073709551616 → number_of (decimal n) ≡ Value n
+pub decimal_back : (n : ℕ) → n < 18446744073709551616 → number_of (decimal n) ≡ Some n
 unfolding decimal
 decimal_back n h =
     let w = back 20 n (omega arith) in

@@ -1,15 +1,16 @@
 -- Laws of finding a byte, of a line's fields and of comparing. Assumes nothing.
-use Prim.Native.Nat.{ℕ, zero, suc, ◌+◌, ◌-◌, ◌<◌}
-use borrow.Author.Tests.{eqb-true, eqb-false}
-use lib.Dec.{eqb}
+use Prim.Native.Nat.{ℕ, zero, suc, ◌+◌, ◌-◌, ◌<◌, ◌≤◌}
+use borrow.Author.Tests.{eqb-false, ltb-true, ltb-false}
+use lib.Dec.{eqb, ltb}
 use lib.ListN.{length, take, drop, get_or, length-drop}
 use lib.Seq.{take_all}
-use mathlib.Core.Bool.{Bool, true, false, cond, ◌&&◌}
+use mathlib.Core.Bool.{Bool, true, false, cond, not}
 use mathlib.Core.List.{List, [], ◌∷◌}
-use mathlib.Core.Path.{◌≡◌, refl, sym, ap, ap₂, ◌∙◌}
+use mathlib.Core.Path.{◌≡◌, refl, ap, ◌∙◌}
 use native.Mathlib.Omega.{arith}
-use Rattle.text.specs.Fields.{Field, onto, fields, index_of, Found}
-use Rattle.wire.specs.Rfc4291.{same_bytes_is}
+use Rattle.std.specs.List.{position_or_len, prefix_len}
+use Rattle.std.specs.Prelude.{Option, Some, None, MatchOption}
+use Rattle.text.specs.Fields.{onto, fields, index_of, Found, Parted}
 
 -- ---- a search
 
@@ -24,33 +25,31 @@ pub before : (b : ℕ) (s : List ℕ) (k : ℕ) → k < index_of b s → get_or 
 before b [] k h e = omega arith
 before b (x ∷ xs) k h e = below_by b x (index_of b xs) k xs (eqb x b) refl (λ j. before b xs j) h e
 
--- ---- comparing
+place_by : (b x : ℕ) (xs : List ℕ) (t : Bool) → prefix_len (λ y. not (eqb y b)) xs ≡ index_of b xs
+    → cond (not t) (1 + prefix_len (λ y. not (eqb y b)) xs) 0 ≡ cond t zero (suc (index_of b xs))
+place_by b x xs true i = refl
+place_by b x xs false i = omega arith
 
-pub differ : (s w : List ℕ) → (length s ≡ length w → ⊥) → same_bytes_is s w ≡ false
-differ [] [] h = absurd (h refl)
-differ [] (y ∷ ys) h = refl
-differ (x ∷ xs) [] h = refl
-differ (x ∷ xs) (y ∷ ys) h =
-    let t : same_bytes_is xs ys ≡ false = differ xs ys (λ e. h (ap suc e)) in
-    rw t (none (eqb x y))
+-- std's index of the first element that passes
+place_is : (b : ℕ) (s : List ℕ) → position_or_len (λ y. eqb y b) s ≡ index_of b s
+place_is b [] = refl
+place_is b (x ∷ xs) = place_by b x xs (eqb x b) (place_is b xs)
+
+index_most : (b : ℕ) (s : List ℕ) → index_of b s ≤ length s
+index_most b [] = omega arith
+index_most b (x ∷ xs) = most_by (eqb x b) (index_most b xs)
   where
-    none : (b : Bool) → (b && false) ≡ false
-    none true = refl
-    none false = refl
+    most_by : (t : Bool) → index_of b xs ≤ length xs → cond t zero (suc (index_of b xs)) ≤ suc (length xs)
+    most_by true h = omega arith
+    most_by false h = omega arith
 
-no_false : false ≡ true → ⊥
-no_false p = let z : ◌≡◌ {A = ℕ} 0 1 = cc in omega arith
+found_by : (b : ℕ) (s : List ℕ) (t : Bool) → ltb (index_of b s) (length s) ≡ t
+    → MatchOption (cond t (Some (index_of b s)) None) (index_of b s ≡ length s) (λ n. (n ≡ index_of b s) × (n < length s))
+found_by b s true e = (refl, ltb-true (index_of b s) (length s) e)
+found_by b s false e = let h = ltb-false (index_of b s) (length s) e in let m = index_most b s in omega arith
 
-same_by : (x y : ℕ) (s w : List ℕ) (t : Bool) → eqb x y ≡ t → (same_bytes_is s w ≡ true → s ≡ w) → (t && same_bytes_is s w) ≡ true → ◌≡◌ {A = List ℕ} (x ∷ s) (y ∷ w)
-same_by x y s w true e i p = ap₂ (λ (a : ℕ) (l : List ℕ). a ∷ l) (eqb-true x y e) (i p)
-same_by x y s w false e i p = absurd (no_false p)
-
--- what compares alike is alike
-pub same : (s w : List ℕ) → same_bytes_is s w ≡ true → s ≡ w
-same [] [] p = refl
-same [] (y ∷ w) p = absurd (no_false p)
-same (x ∷ s) [] p = absurd (no_false p)
-same (x ∷ s) (y ∷ w) p = same_by x y s w (eqb x y) refl (same s w) p
+pub found : (s : List ℕ) (b : ℕ) (r : Option ℕ) → Found s b r → MatchOption r (index_of b s ≡ length s) (λ n. (n ≡ index_of b s) × (n < length s))
+found s b r e = rw (e, place_is b s) (found_by b s (ltb (index_of b s) (length s)) refl)
 
 -- ---- fields
 
@@ -84,14 +83,5 @@ parted (b ∷ s) h = parted_by b s (eqb b 32) refl (parted s) h
 pub rest : (s : List ℕ) (n : ℕ) → take (length s - (n + 1)) (drop (n + 1) s) ≡ drop (n + 1) s
 rest s n = take_all (length s - (n + 1)) (drop (n + 1) s) (rw length-drop (omega arith))
 
-pub one_field : (s : List ℕ) (n : ℕ) → Found s 32 n → n ≡ length s → fields s ≡ s ∷ []
-one_field s n w h = alone s (sym w.is ∙ h)
-
-pub more_fields : (s : List ℕ) (n : ℕ) → Found s 32 n → (n ≡ length s → ⊥)
-    → fields s ≡ take n s ∷ fields (take (length s - (n + 1)) (drop (n + 1) s))
-more_fields s n w h = parted s (λ q. h (w.is ∙ q)) ∙ rw (rest s n, w.is) refl
-
--- there is always a first field
-pub some_by : (b : ℕ) (fs : List Field) → onto b fs ≡ [] → ⊥
-some_by b [] p = let z : ◌≡◌ {A = ℕ} 0 1 = cc in omega arith
-some_by b (f ∷ fs) p = let z : ◌≡◌ {A = ℕ} 0 1 = cc in omega arith
+pub more_fields : (s : List ℕ) (n : ℕ) → n ≡ index_of 32 s → n < length s → Parted s (take n s) (take (length s - (n + 1)) (drop (n + 1) s))
+more_fields s n e h = record { is = parted s (λ q. omega arith) ∙ rw (rest s n, e) refl }

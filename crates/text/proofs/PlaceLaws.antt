@@ -2,8 +2,8 @@
 use Prim.Native.Nat.{ℕ, suc, ◌+◌, ◌-◌, ◌≤◌, ◌<◌, min}
 use borrow.Author.Tests.{leb-true, leb-false}
 use lib.Dec.{leb}
-use lib.ListN.{length, take, drop, set, get_or, length-set, length-append}
-use lib.Seq.{sets, length-sets, sets-eq, set_out, take-suc, take-append_seam}
+use lib.ListN.{length, take, set, get_or, length-set, length-append}
+use lib.Seq.{sets, length-sets, set_out, take-suc}
 use mathlib.Core.Bool.{Bool, true, false}
 use mathlib.Core.List.{List, [], ◌∷◌, ◌++◌}
 use mathlib.Core.Path.{◌≡◌, refl, sym, ap₂, ◌∙◌}
@@ -71,12 +71,3 @@ put_as {out} {bs} {cs} {out'} {at} {r} e p = rw e at p
 pub one_more : {out out₁ out₂ : List ℕ} {at r q : ℕ} (bs : List ℕ) (i : ℕ) → i < length bs → Put out at (take i bs) r out₁ → Put out₁ r (get_or bs i 0 ∷ []) q out₂
     → Put out at (take (i + 1) bs) q out₂
 one_more bs i h p w = put_as (sym (rw add-one (take-suc bs i 0 h))) (chain p w)
-
--- where there is room, all of it stands there
-pub whole : (out bs : List ℕ) → length bs ≤ length out → take (length bs) (put out 0 bs) ≡ bs
-unfolding put
-whole out bs h =
-    let o : 0 + length bs ≡ length bs = omega arith in
-    let k : 0 + length bs ≤ length out = omega arith in
-    let e : sets out 0 bs ≡ bs ++ drop (length bs) out = rw o at (sets-eq bs out 0 k) in
-    rw e (take-append_seam bs (drop (length bs) out))

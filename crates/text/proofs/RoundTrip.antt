@@ -7,26 +7,24 @@ use mathlib.Core.Bool.{Bool, true, false, cond, ◌&&◌}
 use mathlib.Core.List.{List, [], ◌∷◌, ◌++◌}
 use mathlib.Core.Path.{◌≡◌, refl, ap}
 use native.Mathlib.Omega.{arith}
+use Rattle.std.specs.Option.{option_map}
+use Rattle.std.specs.Prelude.{Option, Some, None}
 use Rattle.text.proofs.DecimalLaws.{decimal_back}
 use Rattle.text.proofs.HexLaws.{read_back, hexed_length}
-use Rattle.text.specs.Addresses.{address_of, hardware_of, message_of}
+use Rattle.text.specs.Addresses.{octets_of, address_of, hardware_of, message_of}
 use Rattle.text.specs.Decimal.{digit_of, all_digits, number_of, decimal_by, decimal}
 use Rattle.text.specs.Fields.{fields, index_of}
 use Rattle.text.specs.Hex.{nibble_of, unhexed, glyph_of, hexed}
-use Rattle.text.specs.declared.address.Address.TheVariants.{Value as Addr, Bad as NoAddr}
-use Rattle.text.specs.declared.address.Hardware.TheVariants.{Value as Hw, Bad as NoHw}
-use Rattle.text.specs.declared.address.Message.TheVariants.{Bytes, Bad as NoMessage}
-use Rattle.text.specs.declared.number.Number.TheVariants.{Value as Num, Bad as NoNum}
 use Rattle.wire.proofs.RoundTrip.{address_back, hardware_back}
-use Rattle.wire.specs.Rfc2464.{hardware_bytes}
-use Rattle.wire.specs.Rfc4291.{address_bytes}
+use Rattle.wire.specs.Rfc2464.{hardware_at, hardware_bytes}
+use Rattle.wire.specs.Rfc4291.{address_at, address_bytes}
 use Rattle.wire.specs.RoundTrips.{Bytes as AllBytes}
 use Rattle.wire.specs.declared.ethernet.HardwareAddress.{HardwareAddress}
 use Rattle.wire.specs.declared.ipv6.Ipv6Addr.{Ipv6Addr}
 
 -- ---- numbers
 
-pub number_reads_back : (n : ℕ) → n < 2 ^ 64 → number_of (decimal n) ≡ Num n
+pub number_reads_back : (n : ℕ) → n < 2 ^ 64 → number_of (decimal n) ≡ Some n
 number_reads_back n h = decimal_back n h
 
 -- ---- addresses
@@ -38,21 +36,21 @@ address_bytes_lem a h l =
 hardware_bytes_lem : (a : HardwareAddress) → a.hi < 2 ^ 16 → a.lo < 2 ^ 32 → AllBytes (hardware_bytes a)
 hardware_bytes_lem a h l = (omega arith, (omega arith, (omega arith, (omega arith, (omega arith, (omega arith, tt))))))
 
-pub address_reads_back : (a : Ipv6Addr) → a.hi < 2 ^ 64 → a.lo < 2 ^ 64 → address_of (hexed (address_bytes a)) ≡ Addr a
+pub address_reads_back : (a : Ipv6Addr) → a.hi < 2 ^ 64 → a.lo < 2 ^ 64 → address_of (hexed (address_bytes a)) ≡ Some a
 unfolding address_of
 address_reads_back a h l =
     let e = read_back (address_bytes a) (address_bytes_lem a h l) in
-    rw e (ap Addr (address_back a []))
+    rw e (ap (λ (x : Ipv6Addr). Some x) (address_back a []))
 
-pub hardware_reads_back : (a : HardwareAddress) → a.hi < 2 ^ 16 → a.lo < 2 ^ 32 → hardware_of (hexed (hardware_bytes a)) ≡ Hw a
+pub hardware_reads_back : (a : HardwareAddress) → a.hi < 2 ^ 16 → a.lo < 2 ^ 32 → hardware_of (hexed (hardware_bytes a)) ≡ Some a
 unfolding hardware_of
 hardware_reads_back a h l =
     let e = read_back (hardware_bytes a) (hardware_bytes_lem a h l) in
-    rw e (ap Hw (hardware_back a []))
+    rw e (ap (λ (x : HardwareAddress). Some x) (hardware_back a []))
 
 -- ---- messages
 
-pub message_reads_back : (room : ℕ) (bs : List ℕ) → AllBytes bs → 0 < length bs → length bs ≤ room → message_of room (hexed bs) ≡ Bytes (length bs)
+pub message_reads_back : (room : ℕ) (bs : List ℕ) → AllBytes bs → 0 < length bs → length bs ≤ room → message_of room (hexed bs) ≡ Some (length bs)
 unfolding message_of
 message_reads_back room bs w h k =
     let e = read_back bs w in
@@ -129,11 +127,11 @@ spaced_digits : (s : List ℕ) → (Clear s → ⊥) → all_digits s ≡ false
 spaced_digits [] n = absurd (n refl)
 spaced_digits (b ∷ s) n = digits_by b s (eqb b 32) refl (spaced_digits s) n
 
-empty_by : (t : Bool) → cond t NoNum NoNum ≡ NoNum
+empty_by : (t : Bool) → cond {A = Option ℕ} t None None ≡ None
 empty_by true = refl
 empty_by false = refl
 
-pub spaced_number : (s : List ℕ) → (Clear s → ⊥) → number_of s ≡ NoNum
+pub spaced_number : (s : List ℕ) → (Clear s → ⊥) → number_of s ≡ None
 spaced_number s n = rw (spaced_digits s n) (empty_by (eqb (length s) 0))
 
 pair_by : (x : ℕ) (s : List ℕ) (t : Bool) → 2 * length (unhexed s) < length s → 2 * length (cond t (x ∷ unhexed s) []) < suc (suc (length s))
@@ -161,32 +159,29 @@ spaced_hex [] n = absurd (n refl)
 spaced_hex (a ∷ []) n = omega arith
 spaced_hex (a ∷ b ∷ s) n = first_by a b s (eqb a 32) refl (spaced_hex s) n
 
-address_by : (n k : ℕ) (a : Ipv6Addr) (t : Bool) → eqb n 32 ≡ t → 2 * k < n → cond t (cond (eqb k 16) (Addr a) NoAddr) NoAddr ≡ NoAddr
-address_by n k a true e h =
-    let q = eqb-true n 32 e in
-    rw (ne_eqb k 16 (λ r. omega arith)) refl
-address_by n k a false e h = refl
+octets_by : (n k m : ℕ) (l : List ℕ) (t : Bool) → eqb n (2 * m) ≡ t → 2 * k < n → cond t (cond (eqb k m) (Some l) None) None ≡ None
+octets_by n k m l true e h =
+    let q = eqb-true n (2 * m) e in
+    rw (ne_eqb k m (λ r. omega arith)) refl
+octets_by n k m l false e h = refl
 
-pub spaced_address : (s : List ℕ) → (Clear s → ⊥) → address_of s ≡ NoAddr
+spaced_octets : (m : ℕ) (s : List ℕ) → (Clear s → ⊥) → octets_of m s ≡ None
+spaced_octets m s n = octets_by (length s) (length (unhexed s)) m (unhexed s) (eqb (length s) (2 * m)) refl (spaced_hex s n)
+
+pub spaced_address : (s : List ℕ) → (Clear s → ⊥) → address_of s ≡ None
 unfolding address_of
-spaced_address s n = address_by (length s) (length (unhexed s)) _ (eqb (length s) 32) refl (spaced_hex s n)
+spaced_address s n = ap (λ (o : Option (List ℕ)). option_map (λ v. address_at v 0) o) (spaced_octets 16 s n)
 
-hardware_by : (n k : ℕ) (a : HardwareAddress) (t : Bool) → eqb n 12 ≡ t → 2 * k < n → cond t (cond (eqb k 6) (Hw a) NoHw) NoHw ≡ NoHw
-hardware_by n k a true e h =
-    let q = eqb-true n 12 e in
-    rw (ne_eqb k 6 (λ r. omega arith)) refl
-hardware_by n k a false e h = refl
-
-pub spaced_hardware : (s : List ℕ) → (Clear s → ⊥) → hardware_of s ≡ NoHw
+pub spaced_hardware : (s : List ℕ) → (Clear s → ⊥) → hardware_of s ≡ None
 unfolding hardware_of
-spaced_hardware s n = hardware_by (length s) (length (unhexed s)) _ (eqb (length s) 12) refl (spaced_hex s n)
+spaced_hardware s n = ap (λ (o : Option (List ℕ)). option_map (λ v. hardware_at v 0) o) (spaced_octets 6 s n)
 
-message_zero : (k n : ℕ) (t u : Bool) → (2 * k ≡ n → ⊥) → cond u NoMessage (cond t NoMessage (cond (eqb (2 * k) n) (Bytes k) NoMessage)) ≡ NoMessage
+message_zero : (k n : ℕ) (t u : Bool) → (2 * k ≡ n → ⊥) → cond {A = Option ℕ} u None (cond t None (cond (eqb (2 * k) n) (Some k) None)) ≡ None
 message_zero k n t true h = refl
 message_zero k n true false h = refl
 message_zero k n false false h = rw (ne_eqb (2 * k) n h) refl
 
-pub spaced_message : (room : ℕ) (s : List ℕ) → (Clear s → ⊥) → message_of room s ≡ NoMessage
+pub spaced_message : (room : ℕ) (s : List ℕ) → (Clear s → ⊥) → message_of room s ≡ None
 unfolding message_of
 spaced_message room s n =
     message_zero (length (unhexed s)) (length s) (eqb (length (unhexed s)) 0) (ltb room (length s / 2))

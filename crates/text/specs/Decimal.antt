@@ -1,7 +1,5 @@
 -- Decimal numbers below 2^64, read and written. Assumes nothing.
-use Rattle.std.specs.Prelude.{ℕ, zero, suc, ◌+◌, ◌-◌, ◌*◌, ◌/◌, ◌%◌, Bool, true, cond, ◌&&◌, List, [], ◌∷◌, ◌++◌, length, eqb, ltb}
-use Rattle.text.specs.declared.number.Number.{Number}
-use Rattle.text.specs.declared.number.Number.TheVariants.{Value, Bad}
+use Rattle.std.specs.Prelude.{ℕ, zero, suc, ◌+◌, ◌-◌, ◌*◌, ◌/◌, ◌%◌, Bool, true, cond, ◌&&◌, List, [], ◌∷◌, ◌++◌, length, eqb, ltb, Option, Some, None}
 
 -- the value of a digit, 10 for any other byte
 abbrev pub digit_of : ℕ → ℕ
@@ -16,12 +14,12 @@ abbrev pub value_from : ℕ → List ℕ → ℕ
 value_from v [] = v
 value_from v (d ∷ ds) = value_from (v * 10 + digit_of d) ds
 
-abbrev pub read_from : ℕ → List ℕ → Number
-read_from v s = cond (all_digits s) (cond (ltb (value_from v s) 18446744073709551616) (Value (value_from v s)) Bad) Bad
+abbrev pub read_from : ℕ → List ℕ → Option ℕ
+read_from v s = cond (all_digits s) (cond (ltb (value_from v s) 18446744073709551616) (Some (value_from v s)) None) None
 
 -- at least one digit, digits alone, a value below 2^64
-abbrev pub number_of : List ℕ → Number
-number_of s = cond (eqb (length s) 0) Bad (read_from 0 s)
+abbrev pub number_of : List ℕ → Option ℕ
+number_of s = cond (eqb (length s) 0) None (read_from 0 s)
 
 -- the digits of n, no more than f of them, none in front that is a 0 unless n is 0
 abbrev pub decimal_by : ℕ → ℕ → List ℕ

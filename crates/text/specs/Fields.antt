@@ -1,6 +1,7 @@
 -- A line's fields: one space parts two of them, and none stands at either end (docs/DECISIONS.md, 3). A second space in a row parts an
 -- empty field, and no kind of field is empty. Assumes nothing.
-use Rattle.std.specs.Prelude.{ℕ, zero, suc, ◌≤◌, ◌≡◌, cond, List, [], ◌∷◌, length, take, eqb}
+use Rattle.std.specs.List.{position}
+use Rattle.std.specs.Prelude.{ℕ, zero, suc, ◌≡◌, ◌==◌, cond, List, [], ◌∷◌, eqb, Option}
 
 -- a field: bytes with no space among them
 abbrev pub Field : Type 0
@@ -21,7 +22,10 @@ abbrev pub index_of : ℕ → List ℕ → ℕ
 index_of b [] = zero
 index_of b (x ∷ s) = cond (eqb x b) zero (suc (index_of b s))
 
-pub record Found (s : List ℕ) (b r : ℕ) : Type 0 where
-  pub is : r ≡ index_of b s
-  pub high : r ≤ length s
-  pub taken : r ≡ length (take r s)
+-- the first b's index, if there is one
+abbrev pub Found : List ℕ → ℕ → Option ℕ → Type 0
+Found s b r = r ≡ position (λ x. x == b) s
+
+-- a line's first field, and the line of the fields after it; none where there is one field alone
+pub record Parted (line first rest : List ℕ) : Type 0 where
+  pub is : fields line ≡ first ∷ fields rest

@@ -3,3 +3,4 @@ pub mod Decimal
 pub mod Hex
 pub mod Place
 pub mod Addresses
+pub mod Gathered

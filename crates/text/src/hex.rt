@@ -1,75 +1,49 @@
 // Hexadecimal digits, two to a byte.
-ghost use Rattle.std.specs.Prelude.{◌≡◌, ◌≤◌, ◌*◌, ◌+◌, ◌<◌, ◌/◌, ◌%◌, length};
-ghost use Rattle.text.specs.Hex.{nibble_of, unhexed, Unhexed, glyph_of};
-
-// The value of a byte that is no digit.
-const NONE: u8 = 16;
+ghost use Rattle.std.specs.Prelude.{◌≡◌, ◌<◌, ◌/◌, ◌%◌, is_some};
+ghost use Rattle.std.specs.List.{list_all};
+ghost use Rattle.text.specs.Hex.{nibble_read, pair_read, Unhexed, glyph_of};
 
 // The value of a digit of either case.
-fn nibble(digit: u8) -> u8
-    ensures { (result ≡ nibble_of digit) × (result ≤ 16) }
+fn nibble(digit: u8) -> Option<u8>
+    ensures { result ≡ nibble_read digit }
 {
-    if digit < b'0' {
-        return NONE;
+    match digit {
+        b'0'..=b'9' => Some(digit - b'0'),
+        b'A'..=b'F' => Some(digit - b'A' + 10),
+        b'a'..=b'f' => Some(digit - b'a' + 10),
+        _ => None,
     }
-    if digit <= b'9' {
-        return digit - b'0';
-    }
-    if digit < b'A' {
-        return NONE;
-    }
-    if digit <= b'F' {
-        return digit - b'A' + 10;
-    }
-    if digit < b'a' {
-        return NONE;
-    }
-    if digit <= b'f' {
-        return digit - b'a' + 10;
-    }
-    NONE
 }
 
-// How many pairs of digits there are, up to the end or the first pair that is none.
-pub fn pairs(digits: &[u8]) -> usize
-    ensures { (result ≡ length (unhexed digits.now)) × (2 * result ≤ length digits.now) }
+// The byte of two digits.
+fn byte(pair: &[u8; 2]) -> Option<u8>
+    ensures { result ≡ pair_read pair.now }
 {
-    let most = digits.len() / 2;
-    let mut count = 0;
-    while count < most {
-        let first = nibble(digits[2 * count]);
-        let second = nibble(digits[2 * count + 1]);
-        if first >= NONE {
-            return count;
-        }
-        if second >= NONE {
-            return count;
-        }
-        count += 1;
-    }
-    count
+    Some(nibble(pair[0])? * 16 + nibble(pair[1])?)
 }
 
-// Reads pairs of digits into out, up to the end or the first pair that is none, and answers how many.
-pub fn unhex(digits: &[u8], out: &mut [u8]) -> usize
-    requires { length digits.now ≤ 2 * length out.old + 1 }
+fn are_bytes(pairs: &[[u8; 2]]) -> bool
+    ensures { result ≡ list_all (λ p. is_some (pair_read p)) pairs.now }
+{
+    pairs.iter().all(|pair| byte(pair).is_some())
+}
+
+// The bytes of pairs of digits, into the front of out, and how many. Where it is not pairs of digits alone, or out has no room, nothing
+// is written.
+pub(crate) fn unhex(digits: &[u8], out: &mut [u8]) -> Option<usize>
     ensures { Unhexed digits.now out.old result out.new }
 {
-    let most = digits.len() / 2;
-    let mut count = 0;
-    while count < most {
-        let first = nibble(digits[2 * count]);
-        let second = nibble(digits[2 * count + 1]);
-        if first >= NONE {
-            return count;
-        }
-        if second >= NONE {
-            return count;
-        }
-        out[count] = first * 16 + second;
-        count += 1;
+    let (pairs, odd) = digits.as_chunks::<2>();
+    if !odd.is_empty() || pairs.len() > out.len() {
+        return None;
     }
-    count
+    if !are_bytes(pairs) {
+        return None;
+    }
+    for (i, pair) in pairs.iter().enumerate() {
+        out[i] = byte(pair)?;
+    }
+    Some(pairs.len())
 }
 
 // The digit of a value, in lower case.
@@ -85,14 +59,14 @@ fn glyph(value: u8) -> u8
 }
 
 // A byte's first digit.
-pub fn high(byte: u8) -> u8
+pub(crate) fn high(byte: u8) -> u8
     ensures { result ≡ glyph_of (byte / 16) }
 {
     glyph(byte / 16)
 }
 
 // A byte's second digit.
-pub fn low(byte: u8) -> u8
+pub(crate) fn low(byte: u8) -> u8
     ensures { result ≡ glyph_of (byte % 16) }
 {
     glyph(byte % 16)

@@ -1,48 +1,19 @@
 // Decimal numbers below 2^64.
-ghost use Rattle.std.specs.Prelude.{◌≡◌, ◌≤◌};
-ghost use Rattle.text.specs.Decimal.{digit_of, number_of};
+ghost use Rattle.std.specs.Prelude.{◌≡◌};
+ghost use Rattle.text.specs.Decimal.{number_of};
 
-const LARGEST: u64 = 0xffff_ffff_ffff_ffff;
-
-// The value of a byte that is no digit.
-const NONE: u64 = 10;
-
-#[derive(Clone, Copy)]
-pub enum Number {
-    Value(u64),
-    Bad,
-}
-
-fn digit(byte: u8) -> u64
-    ensures { (result ≡ digit_of byte) × (result ≤ 10) }
-{
-    if byte < b'0' {
-        return NONE;
-    }
-    if byte > b'9' {
-        return NONE;
-    }
-    (byte - b'0') as u64
-}
-
-pub fn read_number(field: &[u8]) -> Number
+// Not `str::parse`, which would read `+1` too.
+#[tactic(auto, using(crate::proofs::DecimalLaws::num_over))]
+pub fn read_number(field: &[u8]) -> Option<u64>
     ensures { result ≡ number_of field.now }
 {
-    if field.len() == 0 {
-        return Number::Bad;
+    if field.is_empty() {
+        return None;
     }
-    let mut value: u64 = 0;
-    let mut i = 0;
-    while i < field.len() {
-        let next = digit(field[i]);
-        if next >= NONE {
-            return Number::Bad;
-        }
-        if value > (LARGEST - next) / 10 {
-            return Number::Bad;
-        }
-        value = value * 10 + next;
-        i += 1;
+    let mut value = 0u64;
+    for byte in field {
+        let digit = char::from(*byte).to_digit(10)?;
+        value = value.checked_mul(10)?.checked_add(u64::from(digit))?;
     }
-    Number::Value(value)
+    Some(value)
 }

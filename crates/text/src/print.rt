@@ -1,6 +1,6 @@
-// Text put at a place of a lent buffer. Each answers the place after it; what the buffer has no room for is cut.
+// Text that is gathered in a buffer. What there is no room for is cut.
 ghost use Rattle.std.specs.Prelude.{◌≡◌, ◌∷◌, []};
-ghost use Rattle.text.specs.Place.{Put};
+ghost use Rattle.text.specs.Gathered.{Adds, IsCleared, gathered};
 ghost use Rattle.text.specs.Hex.{hexed};
 ghost use Rattle.text.specs.Decimal.{decimal};
 ghost use Rattle.wire.specs.Rfc4291.{address_bytes};
@@ -10,61 +10,73 @@ use crate::hex::{high, low};
 use wire::ethernet::HardwareAddress;
 use wire::ipv6::Ipv6Addr;
 
-pub fn byte(out: &mut [u8], at: usize, value: u8) -> usize
-    ensures { Put out.old at (value ∷ []) result out.new }
-{
-    if at < out.len() {
-        out[at] = value;
-        return at + 1;
+// A lent buffer, and the place in it after what is gathered.
+#[derive(Drop)]
+pub struct Text<'a> {
+    pub buf: &'a mut [u8],
+    pub at: usize,
+}
+
+impl Text<'_> {
+    // What is gathered.
+    pub fn as_bytes(&self) -> &[u8]
+        ensures { result.now ≡ gathered self.now }
+    {
+        &self.buf[..self.at.min(self.buf.len())]
     }
-    at
-}
 
-pub fn word(out: &mut [u8], at: usize, bytes: &[u8]) -> usize
-    ensures { Put out.old at bytes.now result out.new }
-{
-    let mut next = at;
-    let mut i = 0;
-    while i < bytes.len() {
-        next = byte(out, next, bytes[i]);
-        i += 1;
+    // Nothing is gathered any more; the buffer holds what it held.
+    pub fn clear(&mut self)
+        ensures { IsCleared self.old self.new }
+    {
+        self.at = 0;
     }
-    next
-}
 
-// Bytes in hexadecimal.
-pub fn hexes(out: &mut [u8], at: usize, bytes: &[u8]) -> usize
-    ensures { Put out.old at (hexed bytes.now) result out.new }
-{
-    let mut next = at;
-    let mut i = 0;
-    while i < bytes.len() {
-        let first = byte(out, next, high(bytes[i]));
-        next = byte(out, first, low(bytes[i]));
-        i += 1;
+    pub fn byte(&mut self, value: u8)
+        ensures { Adds self.old (value ∷ []) self.new }
+    {
+        if self.at < self.buf.len() {
+            self.buf[self.at] = value;
+            self.at += 1;
+        }
     }
-    next
-}
 
-// A number in decimal, with no 0 in front.
-pub fn number(out: &mut [u8], at: usize, value: u64) -> usize
-    ensures { Put out.old at (decimal value) result out.new }
-{
-    let mut digits = [0u8; 20];
-    let len = io::decimal(value, &mut digits);
-    word(out, at, &digits[..len])
-}
+    pub fn word(&mut self, bytes: &[u8])
+        ensures { Adds self.old bytes.now self.new }
+    {
+        for value in bytes {
+            self.byte(*value);
+        }
+    }
 
-pub fn address(out: &mut [u8], at: usize, addr: Ipv6Addr) -> usize
-    ensures { Put out.old at (hexed (address_bytes addr)) result out.new }
-{
-    let bytes = addr.octets();
-    hexes(out, at, &bytes)
-}
+    // Bytes in hexadecimal.
+    pub fn hexes(&mut self, bytes: &[u8])
+        ensures { Adds self.old (hexed bytes.now) self.new }
+    {
+        for value in bytes {
+            self.byte(high(*value));
+            self.byte(low(*value));
+        }
+    }
 
-pub fn hardware(out: &mut [u8], at: usize, addr: HardwareAddress) -> usize
-    ensures { Put out.old at (hexed (hardware_bytes addr)) result out.new }
-{
-    let bytes = addr.octets();
-    hexes(out, at, &bytes)
+    // A number in decimal, with no 0 in front.
+    pub fn number(&mut self, value: u64)
+        ensures { Adds self.old (decimal value) self.new }
+    {
+        let mut digits = [0u8; 20];
+        let len = io::decimal(value, &mut digits);
+        self.word(&digits[..len]);
+    }
+
+    pub fn address(&mut self, addr: Ipv6Addr)
+        ensures { Adds self.old (hexed (address_bytes addr)) self.new }
+    {
+        self.hexes(&addr.octets());
+    }
+
+    pub fn hardware(&mut self, addr: HardwareAddress)
+        ensures { Adds self.old (hexed (hardware_bytes addr)) self.new }
+    {
+        self.hexes(&addr.octets());
+    }
 }

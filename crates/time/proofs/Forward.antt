@@ -5,9 +5,8 @@ use mathlib.Core.Bool.{Bool, true, false, cond, true≢false}
 use mathlib.Core.List.{List, [], ◌∷◌}
 use lib.Dec.{ltb}
 use borrow.Author.Tests.{ltb-true, ltb-false}
+use Rattle.std.specs.Prelude.{Option, Some, None}
 use Rattle.time.specs.declared.Instant.{Instant}
-use Rattle.time.specs.declared.Deadline.{Deadline}
-use Rattle.time.specs.declared.Deadline.TheVariants.{None, At}
 use Rattle.time.specs.declared.Expiry.{Expiry}
 use Rattle.time.specs.declared.Expiry.TheVariants.{At as EndsAt, Forever}
 use Rattle.time.specs.declared.Clock.{Clock}
@@ -15,15 +14,15 @@ use Rattle.time.specs.declared.Answer.{Answer}
 use Rattle.time.specs.ClockRules.{has_expired, sooner, scheduled_of, asked_of, asked_end}
 use Rattle.time.specs.Forward.{NotLater, Forward, Step, ask, ask_of, schedule, stepped, runs, ForwardLaw}
 
-pub same : (d : Deadline) → NotLater d d
+pub same : (d : Option Instant) → NotLater d d
 same None = tt
-same (At e) = omega arith
+same (Some e) = omega arith
 
-pub after : (a b c : Deadline) → NotLater a b → NotLater b c → NotLater a c
+pub after : (a b c : Option Instant) → NotLater a b → NotLater b c → NotLater a c
 after a b None p q = tt
-after a None (At z) p q = absurd q
-after None (At y) (At z) p q = absurd p
-after (At x) (At y) (At z) p q = omega arith
+after a None (Some z) p q = absurd q
+after None (Some y) (Some z) p q = absurd p
+after (Some x) (Some y) (Some z) p q = omega arith
 
 -- whoever changes nothing, and one after the other
 pub unmoved : (c : Clock) → Forward c c
@@ -33,13 +32,13 @@ pub then : (a b c : Clock) → Forward a b → Forward b c → Forward a c
 then a b c p q = record { now = q.now ∙ p.now; deadline = after c.deadline b.deadline a.deadline q.deadline p.deadline }
 
 -- the earlier of two, by the test
-picks : (b : Bool) (t e : Instant) → ltb t.0 e.0 ≡ b → NotLater (cond b (At t) (At e)) (At e) × NotLater (cond b (At t) (At e)) (At t)
+picks : (b : Bool) (t e : Instant) → ltb t.0 e.0 ≡ b → NotLater (cond b (Some t) (Some e)) (Some e) × NotLater (cond b (Some t) (Some e)) (Some t)
 picks true t e h = (omega (arith, ltb-true), omega arith)
 picks false t e h = (omega arith, omega (arith, ltb-false))
 
-sooner_forward : (d : Deadline) (t : Instant) → NotLater (sooner d t) d × NotLater (sooner d t) (At t)
+sooner_forward : (d : Option Instant) (t : Instant) → NotLater (sooner d t) d × NotLater (sooner d t) (Some t)
 sooner_forward None t = (tt, omega arith)
-sooner_forward (At e) t = picks (ltb t.0 e.0) t e refl
+sooner_forward (Some e) t = picks (ltb t.0 e.0) t e refl
 
 pub scheduling : (c : Clock) (t : Instant) → Forward c (scheduled_of c t)
 scheduling c t = record { now = refl; deadline = (sooner_forward c.deadline t).0 }
@@ -59,7 +58,7 @@ pub asking_end : (c : Clock) (e : Expiry) → Forward c (asked_end c e).clock
 asking_end c (EndsAt t) = asking c t
 asking_end c Forever = unmoved c
 
-waited : (b : Bool) (c : Clock) (t : Instant) → (answered b c t).expired ≡ false → NotLater (answered b c t).clock.deadline (At t)
+waited : (b : Bool) (c : Clock) (t : Instant) → (answered b c t).expired ≡ false → NotLater (answered b c t).clock.deadline (Some t)
 waited true c t h = absurd (true≢false h)
 waited false c t h = (sooner_forward c.deadline t).1
 

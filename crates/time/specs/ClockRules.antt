@@ -1,8 +1,6 @@
 -- Document 01, "Quantities and sizes": the clock of one poll. Request 2026-01: ends that never come. Assumes nothing.
-use Rattle.std.specs.Prelude.{Bool, true, false, cond, ltb, leb}
+use Rattle.std.specs.Prelude.{Bool, true, false, cond, ltb, leb, Option, Some, None}
 use Rattle.time.specs.declared.Instant.{Instant}
-use Rattle.time.specs.declared.Deadline.{Deadline}
-use Rattle.time.specs.declared.Deadline.TheVariants.{None, At}
 use Rattle.time.specs.declared.Expiry.{Expiry}
 use Rattle.time.specs.declared.Expiry.TheVariants.{At as EndsAt, Forever}
 use Rattle.time.specs.declared.Clock.{Clock}
@@ -17,9 +15,9 @@ abbrev pub has_expired : Clock → Instant → Bool
 has_expired c t = leb t.0 c.now.0
 
 -- the earlier of the deadline so far and t
-abbrev pub sooner : Deadline → Instant → Deadline
-sooner None t = At t
-sooner (At e) t = cond (ltb t.0 e.0) (At t) (At e)
+abbrev pub sooner : Option Instant → Instant → Option Instant
+sooner None t = Some t
+sooner (Some e) t = cond (ltb t.0 e.0) (Some t) (Some e)
 
 -- "t joins the deadline, as scheduling t does"
 abbrev pub scheduled_of : Clock → Instant → Clock

@@ -1,31 +1,22 @@
 // Points in time, lengths of time, and the clock that one poll lends to each of its parts.
 #![tactic(auto)]
 
-ghost use Rattle.std.specs.Prelude.{◌≡◌, ◌*◌};
+ghost use Rattle.std.specs.Prelude.{◌≡◌};
 ghost use Rattle.time.specs.ClockRules.{idle, scheduled_of, asked_of, is_after, asked_end};
 ghost use Rattle.time.specs.TimeRules.{add_of, seconds_of};
 
 // A point in time, in milliseconds.
-#[derive(Clone, Copy)]
+#[derive(Debug, Clone, Copy, PartialEq, Eq, PartialOrd, Ord)]
 pub struct Instant(pub u64);
 
 // A length of time, in milliseconds.
-#[derive(Clone, Copy)]
+#[derive(Debug, Clone, Copy, PartialEq, Eq, PartialOrd, Ord)]
 pub struct Duration(pub u64);
-
-const LAST_POINT: u64 = 0xffff_ffff_ffff_ffff;
 
 const MILLIS_PER_SEC: u64 = 1000;
 
-// The earliest point that someone waits for.
-#[derive(Clone, Copy)]
-pub enum Deadline {
-    None,
-    At(Instant),
-}
-
-// When something ends: at a moment, or never.
-#[derive(Clone, Copy)]
+// When something ends: at a moment, or never. No Option: `None` of a deadline says that nobody waits, and neither is to pass for the other.
+#[derive(Debug, Clone, Copy, PartialEq, Eq)]
 pub enum Expiry {
     At(Instant),
     Forever,
@@ -34,10 +25,11 @@ pub enum Expiry {
 #[derive(Clone, Copy)]
 pub struct Clock {
     pub now: Instant,
-    pub deadline: Deadline,
+    // The earliest point that someone waits for.
+    pub deadline: Option<Instant>,
 }
 
-// What asking gives: whether the time has come, and the clock afterwards.
+// What asking gives: whether the time has come, and the clock afterwards, which comes back either way.
 #[derive(Clone, Copy)]
 pub struct Answer {
     pub expired: bool,
@@ -49,7 +41,7 @@ impl Duration {
     pub fn from_secs(secs: u32) -> Duration
         ensures { result ≡ seconds_of secs }
     {
-        Duration((secs as u64) * MILLIS_PER_SEC)
+        Duration(u64::from(secs) * MILLIS_PER_SEC)
     }
 }
 
@@ -58,12 +50,7 @@ impl Instant {
     pub fn add(self, duration: Duration) -> Instant
         ensures { result ≡ add_of self duration }
     {
-        let room = LAST_POINT - self.0;
-        if duration.0 <= room {
-            Instant(self.0 + duration.0)
-        } else {
-            Instant(LAST_POINT)
-        }
+        Instant(self.0.saturating_add(duration.0))
     }
 }
 
@@ -71,40 +58,26 @@ impl Instant {
 pub fn scheduled(clock: Clock, at: Instant) -> Clock
     ensures { result ≡ scheduled_of clock at }
 {
-    let now = clock.now;
-    let deadline = clock.deadline;
-    match deadline {
-        Deadline::None => Clock {
-            now: now,
-            deadline: Deadline::At(at),
-        },
-        Deadline::At(earliest) => {
-            if at.0 < earliest.0 {
-                Clock {
-                    now: now,
-                    deadline: Deadline::At(at),
-                }
-            } else {
-                clock
-            }
-        }
-    }
+    let deadline = match clock.deadline {
+        None => Some(at),
+        Some(earliest) => Some(at.min(earliest)),
+    };
+    Clock { deadline, ..clock }
 }
 
 // Whether `at` has come; a time that has not come is scheduled.
 pub fn asked(clock: Clock, at: Instant) -> Answer
     ensures { result ≡ asked_of clock at }
 {
-    if at.0 <= clock.now.0 {
+    if at <= clock.now {
         return Answer {
             expired: true,
-            clock: clock,
+            clock,
         };
     }
-    let waiting = scheduled(clock, at);
     Answer {
         expired: false,
-        clock: waiting,
+        clock: scheduled(clock, at),
     }
 }
 
@@ -116,7 +89,7 @@ pub fn asked_of(clock: Clock, end: Expiry) -> Answer
         Expiry::At(at) => asked(clock, at),
         Expiry::Forever => Answer {
             expired: false,
-            clock: clock,
+            clock,
         },
     }
 }
@@ -127,7 +100,7 @@ impl Expiry {
         ensures { result ≡ is_after self now }
     {
         match self {
-            Expiry::At(at) => now.0 < at.0,
+            Expiry::At(at) => now < at,
             Expiry::Forever => true,
         }
     }
@@ -139,8 +112,8 @@ impl Clock {
         ensures { result ≡ idle now }
     {
         Clock {
-            now: now,
-            deadline: Deadline::None,
+            now,
+            deadline: None,
         }
     }
 

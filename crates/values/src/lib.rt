@@ -1,15 +1,15 @@
 // Single calls on addresses, messages and options: no state is looked at.
 #![tactic(auto)]
 
-use answers::{address_after, flag, hardware_after, number_after, refused, yes_or_no};
-use fields::{Args, read_call};
-use ndisc::ndisc::{Advert, Solicited, is_router_solicit, router_advert, write_solicit};
-use ndisc::ndiscoption::{Checked, NdiscOption, Next, PrefixInformation, Walk, Written};
+use answers::Answers;
+use fields::Fields;
+use ndisc::ndisc::{Solicited, is_router_solicit, router_advert, write_solicit};
+use ndisc::ndiscoption::{Checked, NdiscOption, Next, PrefixInformation};
 use ndisc::{icmpv6, ndiscoption};
-use report::listing::number_field;
-use table::count_of;
-use text::print;
+use text::print::Text;
 use time::{Duration, Instant};
+use wire::error::Refusal;
+use wire::ethernet::HardwareAddress;
 use wire::ipv6::{Formed, Ipv6Addr, Ipv6Cidr};
 
 // Flags of prefix information, as they are printed and read.
@@ -20,297 +20,273 @@ const ADDRCONF: u8 = 0x40;
 // The data of an option begins past its type and its length.
 const DATA: usize = 2;
 
-// The calls, by their place in the list of patterns.
-const OPTION: usize = 0;
-
-const WRITE_SOURCE: usize = 1;
-
-const WRITE_TARGET: usize = 2;
-
-const WRITE_PREFIX: usize = 3;
-
-const WRITE_MTU: usize = 4;
-
-const SOLICIT: usize = 5;
-
-const ADVERT: usize = 6;
-
-const OPTIONS: usize = 7;
-
-const NEXT: usize = 8;
-
-const CHECKSUM: usize = 9;
-
-const SOLICITATION: usize = 10;
-
-const KIND: usize = 11;
-
-const HARDWARE: usize = 12;
-
-const FORM: usize = 13;
-
-const FORMED: usize = 14;
-
-const SAME: usize = 15;
-
-const MASK: usize = 16;
-
-fn add(args: Args, out: &mut [u8], at: usize) -> usize {
-    let from = Instant(args.time);
-    let sum = from.add(Duration(args.number));
-    print::number(out, at, sum.0)
+// A call, with what its line says. What is read or written is in the room that is lent.
+#[derive(Drop)]
+enum Call<'a> {
+    Option(&'a [u8]),
+    // a message, the place in it, and what is written there
+    Write(&'a mut [u8], usize, Holding),
+    Solicit(&'a mut [u8], Ipv6Addr, HardwareAddress),
+    Advert(&'a [u8]),
+    Options(&'a [u8], usize),
+    Next(&'a [u8], usize),
+    // a message, its source and its destination
+    Checksum(&'a [u8], Ipv6Addr, Ipv6Addr),
+    Solicitation(&'a [u8], Ipv6Addr),
+    Kind(Ipv6Addr),
+    Hardware(HardwareAddress),
+    Form(Ipv6Cidr, HardwareAddress),
+    Formed(Ipv6Addr, HardwareAddress),
+    Same(HardwareAddress, HardwareAddress),
+    Mask(Ipv6Addr, u8),
+    Add(Instant, Duration),
 }
 
-fn kind(addr: Ipv6Addr, out: &mut [u8], at: usize) -> usize {
-    let after_unicast = flag(out, at, b"unicast ", addr.is_unicast());
-    let after_multicast = flag(out, after_unicast, b" multicast ", addr.is_multicast());
-    let after_local = flag(out, after_multicast, b" linklocal ", addr.is_link_local());
-    let after_none = flag(out, after_local, b" unspecified ", addr.is_unspecified());
-    flag(out, after_none, b" allrouters ", addr.is_all_routers())
+// The options that can be written.
+#[derive(Clone, Copy)]
+enum Holding {
+    Source(HardwareAddress),
+    Target(HardwareAddress),
+    Prefix(PrefixInformation),
+    Mtu(u32),
 }
 
-fn hardware(args: Args, out: &mut [u8], at: usize) -> usize {
-    let hardware_addr = args.hardware_addr;
-    let eui = hardware_addr.as_eui_64();
-    let after_unicast = flag(out, at, b"unicast ", hardware_addr.is_unicast());
-    let after_word = print::word(out, after_unicast, b" eui ");
-    print::hexes(out, after_word, &eui)
+fn read_prefix(fields: &mut Fields) -> Option<PrefixInformation> {
+    let prefix_len = fields.byte()?;
+    let flags = fields.byte()?;
+    Some(PrefixInformation {
+        prefix_len,
+        on_link: flags & ON_LINK != 0,
+        addrconf: flags & ADDRCONF != 0,
+        valid_lifetime: fields.word()?,
+        preferred_lifetime: fields.word()?,
+        prefix: fields.address()?,
+    })
 }
 
-fn form(args: Args, out: &mut [u8], at: usize) -> usize {
-    let addr = args.addr;
-    let hardware_addr = args.hardware_addr;
-    let link_prefix = Ipv6Cidr {
-        address: addr,
-        prefix_len: args.prefix_len,
-    };
-    match link_prefix.from_link_prefix(hardware_addr) {
-        Formed::Nothing => print::word(out, at, b"nothing"),
-        Formed::Addr(cidr) => {
-            let own = cidr.address;
-            address_after(out, at, b"formed ", own)
-        }
+// An option by its type.
+fn read_holding(fields: &mut Fields) -> Option<Holding> {
+    match fields.field()? {
+        b"1" => Some(Holding::Source(fields.hardware()?)),
+        b"2" => Some(Holding::Target(fields.hardware()?)),
+        b"3" => Some(Holding::Prefix(read_prefix(fields)?)),
+        b"5" => Some(Holding::Mtu(fields.word()?)),
+        _ => None,
     }
 }
 
-fn formed(args: Args, out: &mut [u8], at: usize) -> usize {
-    let addr = args.addr;
-    let hardware_addr = args.hardware_addr;
-    yes_or_no(out, at, addr.is_formed_from(hardware_addr))
+fn read_place(fields: &mut Fields) -> Option<usize> {
+    Some(fields.number()? as usize)
 }
 
-fn same(args: Args, out: &mut [u8], at: usize) -> usize {
-    let hardware_addr = args.hardware_addr;
-    let other = args.other_hardware;
-    yes_or_no(out, at, hardware_addr.same(other))
+fn read_cidr(fields: &mut Fields) -> Option<Ipv6Cidr> {
+    Some(Ipv6Cidr {
+        address: fields.address()?,
+        prefix_len: fields.byte()?,
+    })
 }
 
-fn mask(args: Args, out: &mut [u8], at: usize) -> usize {
-    let addr = args.addr;
-    let masked = addr.mask(args.prefix_len);
-    address_after(out, at, b"masked ", masked)
+// A call on addresses, by its word.
+fn read_address_call<'a>(word: &[u8], fields: &mut Fields) -> Option<Call<'a>> {
+    let call = match word {
+        b"kind" => Call::Kind(fields.address()?),
+        b"hardware" => Call::Hardware(fields.hardware()?),
+        b"form" => Call::Form(read_cidr(fields)?, fields.hardware()?),
+        b"formed" => Call::Formed(fields.address()?, fields.hardware()?),
+        b"same" => Call::Same(fields.hardware()?, fields.hardware()?),
+        b"mask" => Call::Mask(fields.address()?, fields.byte()?),
+        b"add" => Call::Add(fields.instant()?, Duration(fields.number()?)),
+        _ => return None,
+    };
+    Some(call)
+}
+
+fn read_checksum<'a>(fields: &mut Fields, room: &'a mut [u8]) -> Option<Call<'a>> {
+    let source = fields.address()?;
+    let dst = fields.address()?;
+    Some(Call::Checksum(fields.bytes(room)?, source, dst))
+}
+
+// A call by its word.
+fn read_fields<'a>(fields: &mut Fields, room: &'a mut [u8]) -> Option<Call<'a>> {
+    let call = match fields.field()? {
+        b"option" => Call::Option(fields.bytes(room)?),
+        b"write" => Call::Write(
+            fields.bytes(room)?,
+            read_place(fields)?,
+            read_holding(fields)?,
+        ),
+        b"solicit" => Call::Solicit(fields.bytes(room)?, fields.address()?, fields.hardware()?),
+        b"advert" => Call::Advert(fields.bytes(room)?),
+        b"options" => Call::Options(fields.bytes(room)?, read_place(fields)?),
+        b"next" => Call::Next(fields.bytes(room)?, read_place(fields)?),
+        b"checksum" => read_checksum(fields, room)?,
+        b"solicitation" => Call::Solicitation(fields.bytes(room)?, fields.address()?),
+        word => read_address_call(word, fields)?,
+    };
+    Some(call)
+}
+
+fn kind(addr: Ipv6Addr, out: &mut Text) {
+    out.flag(b"unicast ", addr.is_unicast());
+    out.flag(b" multicast ", addr.is_multicast());
+    out.flag(b" linklocal ", addr.is_link_local());
+    out.flag(b" unspecified ", addr.is_unspecified());
+    out.flag(b" allrouters ", addr.is_all_routers());
+}
+
+fn hardware(hardware_addr: HardwareAddress, out: &mut Text) {
+    out.flag(b"unicast ", hardware_addr.is_unicast());
+    out.word(b" eui ");
+    out.hexes(&hardware_addr.as_eui_64());
+}
+
+fn form(link_prefix: Ipv6Cidr, hardware_addr: HardwareAddress, out: &mut Text) {
+    match link_prefix.from_link_prefix(hardware_addr) {
+        Formed::Nothing => out.word(b"nothing"),
+        Formed::Addr(cidr) => out.address_after(b"formed ", cidr.address),
+    }
 }
 
 fn flags(on_link: bool, addrconf: bool) -> u8 {
     let mut bits = 0;
     if on_link {
-        bits = ON_LINK;
+        bits |= ON_LINK;
     }
     if addrconf {
-        bits = bits | ADDRCONF;
+        bits |= ADDRCONF;
     }
     bits
 }
 
-fn lifetimes(out: &mut [u8], at: usize, info: PrefixInformation) -> usize {
-    let valid = Duration::from_secs(info.valid_lifetime);
-    let preferred = Duration::from_secs(info.preferred_lifetime);
-    let after_valid = number_field(out, at, valid.0);
-    number_field(out, after_valid, preferred.0)
-}
-
-fn prefix_information(out: &mut [u8], at: usize, info: PrefixInformation) -> usize {
-    let prefix = info.prefix;
-    let bits = flags(info.on_link, info.addrconf);
-    let after_len = number_after(out, at, b"3 ", info.prefix_len as u64);
-    let after_flags = number_field(out, after_len, bits as u64);
-    let after_lifetimes = lifetimes(out, after_flags, info);
-    address_after(out, after_lifetimes, b" ", prefix)
+fn prefix_information(info: PrefixInformation, out: &mut Text) {
+    out.number_after(b"3 ", info.prefix_len as u64);
+    out.field(flags(info.on_link, info.addrconf) as u64);
+    out.field(Duration::from_secs(info.valid_lifetime).0);
+    out.field(Duration::from_secs(info.preferred_lifetime).0);
+    out.address_after(b" ", info.prefix);
 }
 
 // What an option holds.
-fn held(out: &mut [u8], at: usize, option: NdiscOption) -> usize {
+fn held(option: NdiscOption, out: &mut Text) {
     match option {
-        NdiscOption::SourceLinkLayerAddr(source) => hardware_after(out, at, b"1 ", source),
-        NdiscOption::TargetLinkLayerAddr(target) => hardware_after(out, at, b"2 ", target),
-        NdiscOption::PrefixInformation(info) => prefix_information(out, at, info),
-        NdiscOption::RedirectedHeader => print::byte(out, at, b'4'),
-        NdiscOption::Mtu(mtu) => number_after(out, at, b"5 ", mtu as u64),
-        NdiscOption::Unknown(other) => print::number(out, at, other as u64),
+        NdiscOption::SourceLinkLayerAddr(source) => out.hardware_after(b"1 ", source),
+        NdiscOption::TargetLinkLayerAddr(target) => out.hardware_after(b"2 ", target),
+        NdiscOption::PrefixInformation(info) => prefix_information(info, out),
+        NdiscOption::RedirectedHeader => out.word(b"4"),
+        NdiscOption::Mtu(mtu) => out.number_after(b"5 ", mtu as u64),
+        NdiscOption::Unknown(other) => out.number(other as u64),
     }
 }
 
 // The data of an option: from where, up to where, and its bytes.
-fn stretch(out: &mut [u8], at: usize, data: &[u8]) -> usize {
-    let end = std::num::wrapping_add_usize(DATA, data.len());
-    let after_from = number_after(out, at, b" data ", DATA as u64);
-    let after_upto = number_field(out, after_from, end as u64);
-    let after_space = print::byte(out, after_upto, b' ');
-    answers::bytes(out, after_space, data)
+fn stretch(data: &[u8], out: &mut Text) {
+    out.number_after(b" data ", DATA as u64);
+    out.field(data.len().wrapping_add(DATA) as u64);
+    out.word(b" ");
+    out.bytes(data);
 }
 
-fn option(message: &[u8], out: &mut [u8], at: usize) -> usize {
+fn option(message: &[u8], out: &mut Text) {
     let data = ndiscoption::data(message);
     match ndiscoption::check_option(message) {
         Checked::Refused(_) => {
-            let after_word = print::word(out, at, b"malformed ");
-            answers::bytes(out, after_word, data)
+            out.word(b"malformed ");
+            out.bytes(data);
         }
-        Checked::Well { option, units: _ } => {
-            let after_held = held(out, at, option);
-            stretch(out, after_held, data)
+        Checked::Well { option, .. } => {
+            held(option, out);
+            stretch(data, out);
         }
     }
 }
 
-fn advert(message: &[u8], out: &mut [u8], at: usize) -> usize {
+fn advert(message: &[u8], out: &mut Text) {
     match router_advert(message) {
-        Advert::Refused(why) => refused(out, at, why),
-        Advert::Header(header) => {
-            let lifetime = header.router_lifetime as u64;
-            let after_lifetime = number_after(out, at, b"lifetime ", lifetime);
-            let after_managed = flag(out, after_lifetime, b" managed ", header.managed);
-            flag(out, after_managed, b" other ", header.other_config)
+        Err(why) => out.refused(why),
+        Ok(header) => {
+            out.number_after(b"lifetime ", header.router_lifetime as u64);
+            out.flag(b" managed ", header.managed);
+            out.flag(b" other ", header.other_config);
         }
     }
 }
 
-fn options(message: &[u8], from: usize, out: &mut [u8], at: usize) -> usize {
+fn options(message: &[u8], from: usize, out: &mut Text) {
     match ndiscoption::check_options(message, from) {
-        Walk::Clean => print::word(out, at, b"clean"),
-        Walk::MalformedAt(place) => number_after(out, at, b"malformed ", place as u64),
+        None => out.word(b"clean"),
+        Some(place) => out.number_after(b"malformed ", place as u64),
     }
 }
 
-fn next(message: &[u8], from: usize, out: &mut [u8], at: usize) -> usize {
+fn next(message: &[u8], from: usize, out: &mut Text) {
     match ndiscoption::next_option(message, from) {
-        Next::End => print::word(out, at, b"end"),
-        Next::Malformed => print::word(out, at, b"malformed"),
+        Next::End => out.word(b"end"),
+        Next::Malformed => out.word(b"malformed"),
         Next::Option { option, next } => {
-            let after_held = held(out, at, option);
-            number_after(out, after_held, b" next ", next as u64)
+            held(option, out);
+            out.number_after(b" next ", next as u64);
         }
     }
 }
 
-fn checksum(args: Args, message: &[u8], out: &mut [u8], at: usize) -> usize {
-    let source = args.addr;
-    let dst = args.other;
-    let sum = icmpv6::checksum(source, dst, message);
-    print::number(out, at, sum as u64)
-}
-
-fn solicitation(args: Args, message: &[u8], out: &mut [u8], at: usize) -> usize {
-    let dst = args.addr;
-    yes_or_no(out, at, is_router_solicit(message, dst))
-}
-
-// An option that is written into a message.
-fn write(args: Args, message: &mut [u8]) -> Written {
-    let place = args.number as usize;
-    let hardware_addr = args.hardware_addr;
-    let code = args.code;
-    match code {
-        WRITE_SOURCE => ndiscoption::write_source_link_layer_addr(message, place, hardware_addr),
-        WRITE_TARGET => ndiscoption::write_target_link_layer_addr(message, place, hardware_addr),
-        WRITE_PREFIX => write_prefix(args, message),
-        _ => ndiscoption::write_mtu(message, place, args.handle),
+fn write(message: &mut [u8], place: usize, holding: Holding) -> Result<(), Refusal> {
+    match holding {
+        Holding::Source(addr) => ndiscoption::write_source_link_layer_addr(message, place, addr),
+        Holding::Target(addr) => ndiscoption::write_target_link_layer_addr(message, place, addr),
+        Holding::Prefix(info) => ndiscoption::write_prefix_information(message, place, info),
+        Holding::Mtu(mtu) => ndiscoption::write_mtu(message, place, mtu),
     }
-}
-
-fn write_prefix(args: Args, message: &mut [u8]) -> Written {
-    let prefix = args.addr;
-    let info = PrefixInformation {
-        prefix_len: args.prefix_len,
-        on_link: args.flags & ON_LINK != 0,
-        addrconf: args.flags & ADDRCONF != 0,
-        valid_lifetime: args.valid,
-        preferred_lifetime: args.preferred,
-        prefix,
-    };
-    ndiscoption::write_prefix_information(message, args.number as usize, info)
 }
 
 // Prints the message with the option in it.
-fn written(args: Args, message: &mut [u8], out: &mut [u8], at: usize) -> usize {
-    match write(args, message) {
-        Written::Refused(why) => refused(out, at, why),
-        Written::Done => answers::bytes(out, at, message),
+fn written(message: &mut [u8], place: usize, holding: Holding, out: &mut Text) {
+    match write(message, place, holding) {
+        Err(why) => out.refused(why),
+        Ok(()) => out.bytes(message),
     }
 }
 
-fn solicit(args: Args, buffer: &mut [u8], out: &mut [u8], at: usize) -> usize {
-    let source = args.addr;
-    let hardware_addr = args.hardware_addr;
-    match write_solicit(buffer, source, hardware_addr) {
-        Solicited::NoRoom => {
-            let after_word = print::word(out, at, b"noroom ");
-            answers::bytes(out, after_word, buffer)
+fn solicit(buffer: &mut [u8], source: Ipv6Addr, hardware_addr: HardwareAddress, out: &mut Text) {
+    if let Solicited::NoRoom = write_solicit(buffer, source, hardware_addr) {
+        out.word(b"noroom ");
+    }
+    out.bytes(buffer);
+}
+
+fn answer(call: Call, out: &mut Text) {
+    match call {
+        Call::Option(message) => option(message, out),
+        Call::Write(message, place, holding) => written(message, place, holding, out),
+        Call::Solicit(buffer, source, addr) => solicit(buffer, source, addr, out),
+        Call::Advert(message) => advert(message, out),
+        Call::Options(message, from) => options(message, from, out),
+        Call::Next(message, from) => next(message, from, out),
+        Call::Checksum(message, source, dst) => {
+            out.number(icmpv6::checksum(source, dst, message) as u64)
         }
-        Solicited::Written => answers::bytes(out, at, buffer),
+        Call::Solicitation(message, dst) => out.yes_or_no(is_router_solicit(message, dst)),
+        Call::Kind(addr) => kind(addr, out),
+        Call::Hardware(addr) => hardware(addr, out),
+        Call::Form(link_prefix, addr) => form(link_prefix, addr, out),
+        Call::Formed(addr, hardware_addr) => out.yes_or_no(addr.is_formed_from(hardware_addr)),
+        Call::Same(addr, other) => out.yes_or_no(addr == other),
+        Call::Mask(addr, len) => out.address_after(b"masked ", addr.mask(len)),
+        Call::Add(from, span) => out.number(from.add(span).0),
     }
 }
 
-fn address_call(args: Args, out: &mut [u8], at: usize) -> usize {
-    let addr = args.addr;
-    let code = args.code;
-    match code {
-        KIND => kind(addr, out, at),
-        HARDWARE => hardware(args, out, at),
-        FORM => form(args, out, at),
-        FORMED => formed(args, out, at),
-        SAME => same(args, out, at),
-        MASK => mask(args, out, at),
-        _ => add(args, out, at),
-    }
+fn read_call<'a>(line: &[u8], room: &'a mut [u8]) -> Option<Call<'a>> {
+    let mut fields = Fields::new(line);
+    let call = read_fields(&mut fields, room)?;
+    fields.is_empty().then_some(call)
 }
 
-// The message is what the line said.
-fn message_call(args: Args, message: &[u8], out: &mut [u8], at: usize) -> usize {
-    let place = args.number as usize;
-    let code = args.code;
-    match code {
-        OPTION => option(message, out, at),
-        ADVERT => advert(message, out, at),
-        OPTIONS => options(message, place, out, at),
-        NEXT => next(message, place, out, at),
-        CHECKSUM => checksum(args, message, out, at),
-        SOLICITATION => solicitation(args, message, out, at),
-        _ => address_call(args, out, at),
-    }
-}
-
-fn call(args: Args, message: &mut [u8], out: &mut [u8], at: usize) -> usize {
-    let code = args.code;
-    match code {
-        WRITE_SOURCE | WRITE_TARGET | WRITE_PREFIX | WRITE_MTU => written(args, message, out, at),
-        SOLICIT => solicit(args, message, out, at),
-        _ => message_call(args, message, out, at),
-    }
-}
-
-// What a line prints, and the place after it; nothing where it is no line of these.
-pub fn values_line(line: &[u8], room: &mut [u8], out: &mut [u8], at: usize) -> usize {
-    let args = read_call(
-        line,
-        b"option x;write xn1m;write xn2m;write xn3lfvpa;write xn5h;solicit xam;advert x;options xn;next xn;checksum azx;solicitation xa;kind a;hardware m;form alm;formed am;same mk;mask al;add tn;",
-        room,
-    );
-    if !args.ok {
-        return at;
-    }
-    // Named at both ends, a part needs no proof of its bounds.
-    let start = 0;
-    let len = count_of(args.len, room.len());
-    call(args, &mut room[start..len], out, at)
+// Answers a line, if it is one of these, and says whether it was.
+pub fn values_line(line: &[u8], room: &mut [u8], out: &mut Text) -> bool {
+    let Some(call) = read_call(line, room) else {
+        return false;
+    };
+    answer(call, out);
+    true
 }

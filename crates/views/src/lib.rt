@@ -1,346 +1,250 @@
 // Single calls that look, and change nothing. Where the library lists by index, the index goes one past the last slot.
 #![tactic(auto)]
 
-use answers::{address_after, flag, hardware_after, key, number_after, refused};
-use fields::{Args, read_call};
-use iface::addr::{AddrAt, IFACE_ADDR_COUNT, IfaceAddrs, Source};
-use iface::route::{ROUTE_COUNT, RouteAt, Routes};
-use neighbor::{Entry, Got, NEIGHBOR_CACHE_COUNT, NeighborCache, State};
-use pending::{PENDING_QUEUE_COUNT, PendingQueue, Waiting};
-use report::listing::{addr_fields, number_field, prefix_fields, route_fields, router_fields};
-use slaac::{Phase, PrefixAt, RouterAt, SLAAC_PREFIX_COUNT, SLAAC_ROUTER_COUNT, Slaac, SlaacState};
-use table::count_of;
-use text::print;
-use wire::error::{Check, check_iface};
+use answers::Answers;
+use fields::Fields;
+use iface::addr::{IFACE_ADDR_COUNT, IfaceAddrs};
+use iface::route::{ROUTE_COUNT, Routes};
+use neighbor::{NEIGHBOR_CACHE_COUNT, NeighborCache, State};
+use pending::{PENDING_QUEUE_COUNT, PendingQueue};
+use report::listing::{addr_fields, prefix_fields, route_fields, router_fields};
+use slaac::{Phase, SLAAC_PREFIX_COUNT, SLAAC_ROUTER_COUNT, Slaac};
+use text::print::Text;
+use wire::error::check_iface;
+use wire::ipv6::Ipv6Addr;
 use world::{IfaceState, World};
 
-// The calls, by their place in the list of patterns.
-const LOOKUP: usize = 0;
+// A call, with what its line says: an interface, and a neighbour's address.
+#[derive(Clone, Copy)]
+enum Call {
+    Lookup(u8, Ipv6Addr),
+    Get(u8, Ipv6Addr),
+    Cache,
+    Neighbors,
+    Queue,
+    Routes,
+    Destinations,
+    Now,
+    Slaac(u8),
+    Prefixes(u8),
+    Routers(u8),
+    Addresses(u8),
+    Source(u8),
+}
 
-const GET: usize = 1;
-
-const CACHE: usize = 2;
-
-const NEIGHBORS: usize = 3;
-
-const QUEUE: usize = 4;
-
-const ROUTES: usize = 5;
-
-const DESTINATIONS: usize = 6;
-
-const NOW: usize = 7;
-
-const SLAAC: usize = 8;
-
-const PREFIXES: usize = 9;
-
-const ROUTERS: usize = 10;
-
-const ADDRESSES: usize = 11;
-
-fn incomplete(out: &mut [u8], at: usize, probes: u8, due: u64) -> usize {
-    let after_probes = number_after(out, at, b" incomplete ", probes as u64);
-    number_field(out, after_probes, due)
+// A call by its word.
+fn read_fields(fields: &mut Fields) -> Option<Call> {
+    let call = match fields.field()? {
+        b"lookup" => Call::Lookup(fields.byte()?, fields.address()?),
+        b"get" => Call::Get(fields.byte()?, fields.address()?),
+        b"cache" => Call::Cache,
+        b"neighbors" => Call::Neighbors,
+        b"queue" => Call::Queue,
+        b"routes" => Call::Routes,
+        b"destinations" => Call::Destinations,
+        b"now" => Call::Now,
+        b"slaac" => Call::Slaac(fields.byte()?),
+        b"prefixes" => Call::Prefixes(fields.byte()?),
+        b"routers" => Call::Routers(fields.byte()?),
+        b"addresses" => Call::Addresses(fields.byte()?),
+        b"source" => Call::Source(fields.byte()?),
+        _ => return None,
+    };
+    Some(call)
 }
 
 // A neighbour's state as the cache keeps it.
-fn state_fields(out: &mut [u8], at: usize, state: State) -> usize {
+fn state_fields(state: State, out: &mut Text) {
     match state {
-        State::Started => print::word(out, at, b" started"),
+        State::Started => out.word(b" started"),
         State::Incomplete {
             probes_sent,
             retrans_at,
-        } => incomplete(out, at, probes_sent, retrans_at.0),
+        } => {
+            out.number_after(b" incomplete ", probes_sent as u64);
+            out.field(retrans_at.0);
+        }
         State::Reachable {
             hardware_addr,
             expires_at,
         } => {
-            let after_hardware = hardware_after(out, at, b" reachable ", hardware_addr);
-            number_field(out, after_hardware, expires_at.0)
+            out.hardware_after(b" reachable ", hardware_addr);
+            out.field(expires_at.0);
         }
-        State::Stale { hardware_addr } => hardware_after(out, at, b" stale ", hardware_addr),
+        State::Stale { hardware_addr } => out.hardware_after(b" stale ", hardware_addr),
     }
-}
-
-fn entry(out: &mut [u8], at: usize, kept: Entry) -> usize {
-    let addr = kept.addr;
-    let state = kept.state;
-    let after_key = key(out, at, kept.iface, addr);
-    state_fields(out, after_key, state)
 }
 
 // The entries as the cache keeps them.
-fn cache(table: NeighborCache, out: &mut [u8], at: usize) -> usize {
-    let count = count_of(table.len, NEIGHBOR_CACHE_COUNT);
-    let mut next = print::number(out, at, count as u64);
-    let mut i = 0;
-    while i < count {
-        let kept = table.slots[i];
-        next = entry(out, next, kept);
-        i += 1;
+fn cache(table: &NeighborCache, out: &mut Text) {
+    let count = table.len.min(NEIGHBOR_CACHE_COUNT);
+    out.number(count as u64);
+    for entry in &table.slots[..count] {
+        out.key(entry.iface, entry.addr);
+        state_fields(entry.state, out);
     }
-    next
 }
 
-fn neighbor(out: &mut [u8], at: usize, got: Got) -> usize {
-    match got {
-        Got::Refused(_) => at,
-        Got::Nothing => at,
-        Got::Is(seen) => {
-            let addr = seen.addr;
-            let state = seen.state;
-            let after_key = key(out, at, seen.iface, addr);
-            let after_space = print::byte(out, after_key, b' ');
-            answers::neighbor_state(out, after_space, state)
+// How many there are, and what is printed of the entry at each index.
+fn list<T, A: Fn(usize) -> Option<T>, P: Fn(T, &mut Text)>(
+    len: usize,
+    last: usize,
+    out: &mut Text,
+    at: A,
+    print: P,
+)
+    requires at { A.IsAlwaysCallable at }
+    requires print { P.IsAlwaysCallable print }
+{
+    out.number(len as u64);
+    for i in 0..=last {
+        if let Some(entry) = at(i) {
+            print(entry, out);
         }
     }
 }
 
 // The entries as the application sees them.
-fn neighbors(table: NeighborCache, out: &mut [u8], at: usize) -> usize {
-    let mut next = print::number(out, at, table.len as u64);
-    let mut i = 0;
-    while i <= NEIGHBOR_CACHE_COUNT {
-        next = neighbor(out, next, table.at(i));
-        i += 1;
-    }
-    next
+fn neighbors(table: &NeighborCache, out: &mut Text) {
+    let at = |i| table.at(i);
+    list(table.len, NEIGHBOR_CACHE_COUNT, out, at, |seen, out| {
+        out.key(seen.iface, seen.addr);
+        out.word(b" ");
+        out.neighbor_state(seen.state);
+    });
 }
 
-fn packet(out: &mut [u8], at: usize, waiting: Waiting) -> usize {
-    match waiting {
-        Waiting::Nothing => at,
-        Waiting::Is(packet) => {
-            let addr = packet.addr;
-            let after_key = key(out, at, packet.iface, addr);
-            number_field(out, after_key, packet.handle as u64)
-        }
-    }
-}
-
-fn queue(table: PendingQueue, out: &mut [u8], at: usize) -> usize {
-    let mut next = print::number(out, at, table.len as u64);
-    let mut i = 0;
-    while i <= PENDING_QUEUE_COUNT {
-        next = packet(out, next, table.at(i));
-        i += 1;
-    }
-    next
+fn queue(table: &PendingQueue, out: &mut Text) {
+    let at = |i| table.at(i);
+    list(table.len, PENDING_QUEUE_COUNT, out, at, |packet, out| {
+        out.key(packet.iface, packet.addr);
+        out.field(packet.handle as u64);
+    });
 }
 
 // A route's interface, router, origin and end.
-fn route(out: &mut [u8], at: usize, found: RouteAt) -> usize {
-    match found {
-        RouteAt::Nothing => at,
-        RouteAt::Is(entry) => {
-            let after_iface = number_after(out, at, b"; ", entry.iface as u64);
-            let after_space = print::byte(out, after_iface, b' ');
-            route_fields(out, after_space, entry)
-        }
-    }
-}
-
-fn routes(table: Routes, out: &mut [u8], at: usize) -> usize {
-    let mut next = print::number(out, at, table.len as u64);
-    let mut i = 0;
-    while i <= ROUTE_COUNT {
-        next = route(out, next, table.at(i));
-        i += 1;
-    }
-    next
+fn routes(table: &Routes, out: &mut Text) {
+    let at = |i| table.at(i);
+    list(table.len, ROUTE_COUNT, out, at, |entry, out| {
+        out.number_after(b"; ", entry.iface as u64);
+        out.word(b" ");
+        route_fields(out, entry);
+    });
 }
 
 // A route's interface, where it leads, and its router.
-fn destination(out: &mut [u8], at: usize, found: RouteAt) -> usize {
-    match found {
-        RouteAt::Nothing => at,
-        RouteAt::Is(entry) => {
-            let cidr = entry.cidr;
-            let addr = cidr.address;
-            let via = entry.via_router;
-            let after_key = key(out, at, entry.iface, addr);
-            let after_len = number_field(out, after_key, cidr.prefix_len as u64);
-            address_after(out, after_len, b" ", via)
-        }
-    }
+fn destinations(table: &Routes, out: &mut Text) {
+    let at = |i| table.at(i);
+    list(table.len, ROUTE_COUNT, out, at, |entry, out| {
+        out.key(entry.iface, entry.cidr.address);
+        out.field(entry.cidr.prefix_len as u64);
+        out.address_after(b" ", entry.via_router);
+    });
 }
 
-fn destinations(table: Routes, out: &mut [u8], at: usize) -> usize {
-    let mut next = print::number(out, at, table.len as u64);
-    let mut i = 0;
-    while i <= ROUTE_COUNT {
-        next = destination(out, next, table.at(i));
-        i += 1;
-    }
-    next
+fn prefixes(learned: &Slaac, out: &mut Text) {
+    let at = |i| learned.prefix_at(i);
+    list(
+        learned.prefix_count,
+        SLAAC_PREFIX_COUNT,
+        out,
+        at,
+        |entry, out| {
+            out.word(b"; ");
+            prefix_fields(out, entry);
+        },
+    );
 }
 
-fn prefix(out: &mut [u8], at: usize, found: PrefixAt) -> usize {
-    match found {
-        PrefixAt::Nothing => at,
-        PrefixAt::Is(entry) => {
-            let after_mark = print::word(out, at, b"; ");
-            prefix_fields(out, after_mark, entry)
-        }
-    }
+fn routers(learned: &Slaac, out: &mut Text) {
+    let at = |i| learned.router_at(i);
+    list(
+        learned.router_count,
+        SLAAC_ROUTER_COUNT,
+        out,
+        at,
+        |entry, out| {
+            out.word(b"; ");
+            router_fields(out, entry);
+        },
+    );
 }
 
-fn prefixes(learned: Slaac, out: &mut [u8], at: usize) -> usize {
-    let mut next = print::number(out, at, learned.prefix_count as u64);
-    let mut i = 0;
-    while i <= SLAAC_PREFIX_COUNT {
-        next = prefix(out, next, learned.prefix_at(i));
-        i += 1;
-    }
-    next
+fn addresses(table: &IfaceAddrs, out: &mut Text) {
+    let at = |i| table.at(i);
+    list(table.len, IFACE_ADDR_COUNT, out, at, |entry, out| {
+        out.word(b"; ");
+        addr_fields(out, entry);
+    });
 }
 
-fn router(out: &mut [u8], at: usize, found: RouterAt) -> usize {
-    match found {
-        RouterAt::Nothing => at,
-        RouterAt::Is(entry) => {
-            let after_mark = print::word(out, at, b"; ");
-            router_fields(out, after_mark, entry)
-        }
-    }
-}
-
-fn routers(learned: Slaac, out: &mut [u8], at: usize) -> usize {
-    let mut next = print::number(out, at, learned.router_count as u64);
-    let mut i = 0;
-    while i <= SLAAC_ROUTER_COUNT {
-        next = router(out, next, learned.router_at(i));
-        i += 1;
-    }
-    next
-}
-
-fn addr(out: &mut [u8], at: usize, found: AddrAt) -> usize {
-    match found {
-        AddrAt::Nothing => at,
-        AddrAt::Is(entry) => {
-            let after_mark = print::word(out, at, b"; ");
-            addr_fields(out, after_mark, entry)
-        }
-    }
-}
-
-fn addresses(table: IfaceAddrs, out: &mut [u8], at: usize) -> usize {
-    let mut next = print::number(out, at, table.len as u64);
-    let mut i = 0;
-    while i <= IFACE_ADDR_COUNT {
-        next = addr(out, next, table.at(i));
-        i += 1;
-    }
-    next
-}
-
-fn source(table: IfaceAddrs, out: &mut [u8], at: usize) -> usize {
+fn source(table: &IfaceAddrs, out: &mut Text) {
     match table.link_local_ipv6_address() {
-        Source::Nothing => print::word(out, at, b"nothing"),
-        Source::From(local) => address_after(out, at, b"from ", local),
+        None => out.word(b"nothing"),
+        Some(local) => out.address_after(b"from ", local),
     }
 }
 
-fn phase_field(out: &mut [u8], at: usize, phase: Phase) -> usize {
-    match phase {
-        Phase::Start => print::word(out, at, b"start"),
-        Phase::Discovering(retry) => number_after(out, at, b"discovering ", retry.0),
-        Phase::Maintaining => print::word(out, at, b"maintaining"),
+fn slaac(learned: &Slaac, out: &mut Text) {
+    if !learned.on {
+        out.word(b"off");
+        return;
     }
-}
-
-fn flags(out: &mut [u8], at: usize, state: SlaacState) -> usize {
-    let after_seen = flag(out, at, b" seen ", state.routers_seen);
-    let after_managed = flag(out, after_seen, b" managed ", state.managed);
-    flag(out, after_managed, b" other ", state.other_config)
-}
-
-fn discovery(learned: Slaac, out: &mut [u8], at: usize) -> usize {
-    let found = learned.discovery;
-    let phase = found.phase;
-    let state = learned.state;
-    let after_phase = phase_field(out, at, phase);
-    let after_left = number_after(out, after_phase, b" left ", found.num_solicitations as u64);
-    let after_sync = flag(out, after_left, b" sync ", learned.sync_required);
-    flags(out, after_sync, state)
-}
-
-fn slaac(learned: Slaac, out: &mut [u8], at: usize) -> usize {
-    if learned.on {
-        return discovery(learned, out, at);
+    match learned.discovery.phase {
+        Phase::Start => out.word(b"start"),
+        Phase::Discovering(retry) => out.number_after(b"discovering ", retry.0),
+        Phase::Maintaining => out.word(b"maintaining"),
     }
-    print::word(out, at, b"off")
-}
-
-fn iface_part(part: IfaceState, code: usize, out: &mut [u8], at: usize) -> usize {
-    let learned = part.slaac;
-    let addrs = part.addrs;
-    match code {
-        SLAAC => slaac(learned, out, at),
-        PREFIXES => prefixes(learned, out, at),
-        ROUTERS => routers(learned, out, at),
-        ADDRESSES => addresses(addrs, out, at),
-        _ => source(addrs, out, at),
-    }
+    out.number_after(b" left ", learned.discovery.num_solicitations as u64);
+    out.flag(b" sync ", learned.sync_required);
+    out.flag(b" seen ", learned.state.routers_seen);
+    out.flag(b" managed ", learned.state.managed);
+    out.flag(b" other ", learned.state.other_config);
 }
 
 // The library lists the tables that it is handed. That there is no such interface is said here.
-fn of_iface(world: World, args: Args, out: &mut [u8], at: usize) -> usize {
-    match check_iface(args.iface) {
-        Check::Refused(why) => refused(out, at, why),
-        Check::Fine => iface_part(world.iface(args.iface), args.code, out, at),
+fn of_iface<F: FnOnce(&IfaceState, &mut Text)>(world: &World, iface: u8, out: &mut Text, print: F)
+    requires { F.IsAlwaysCallable print }
+{
+    match check_iface(iface) {
+        Err(why) => out.refused(why),
+        Ok(()) => print(world.iface(iface), out),
     }
 }
 
-fn now(world: World, out: &mut [u8], at: usize) -> usize {
-    let clock = world.clock;
-    let time = lending::now(clock);
-    print::number(out, at, time.0)
-}
-
-fn neighbor_call(table: NeighborCache, args: Args, out: &mut [u8], at: usize) -> usize {
-    let addr = args.addr;
-    let code = args.code;
-    match code {
-        LOOKUP => answers::lookup(out, at, table.lookup(args.iface, addr)),
-        GET => answers::got(out, at, table.get(args.iface, addr)),
-        CACHE => cache(table, out, at),
-        _ => neighbors(table, out, at),
+fn answer(world: &World, call: Call, out: &mut Text) {
+    match call {
+        Call::Lookup(iface, addr) => out.lookup(world.cache.lookup(iface, addr)),
+        Call::Get(iface, addr) => out.got(world.cache.get(iface, addr)),
+        Call::Cache => cache(&world.cache, out),
+        Call::Neighbors => neighbors(&world.cache, out),
+        Call::Queue => queue(&world.queue, out),
+        Call::Routes => routes(&world.routes, out),
+        Call::Destinations => destinations(&world.routes, out),
+        Call::Now => out.number(lending::now(world.clock).0),
+        Call::Slaac(iface) => of_iface(world, iface, out, |part, out| slaac(&part.slaac, out)),
+        Call::Prefixes(iface) => {
+            of_iface(world, iface, out, |part, out| prefixes(&part.slaac, out))
+        }
+        Call::Routers(iface) => of_iface(world, iface, out, |part, out| routers(&part.slaac, out)),
+        Call::Addresses(iface) => {
+            of_iface(world, iface, out, |part, out| addresses(&part.addrs, out))
+        }
+        Call::Source(iface) => of_iface(world, iface, out, |part, out| source(&part.addrs, out)),
     }
 }
 
-fn path_call(paths: Routes, code: usize, out: &mut [u8], at: usize) -> usize {
-    if code == ROUTES {
-        return routes(paths, out, at);
-    }
-    destinations(paths, out, at)
+fn read_call(line: &[u8]) -> Option<Call> {
+    let mut fields = Fields::new(line);
+    let call = read_fields(&mut fields)?;
+    fields.is_empty().then_some(call)
 }
 
-fn call(world: World, args: Args, out: &mut [u8], at: usize) -> usize {
-    let table = world.cache;
-    let waiting = world.queue;
-    let paths = world.routes;
-    let code = args.code;
-    match code {
-        LOOKUP | GET | CACHE | NEIGHBORS => neighbor_call(table, args, out, at),
-        QUEUE => queue(waiting, out, at),
-        ROUTES | DESTINATIONS => path_call(paths, code, out, at),
-        NOW => now(world, out, at),
-        _ => of_iface(world, args, out, at),
-    }
-}
-
-// What a line prints, and the place after it; nothing where it is no line of these.
-pub fn view_line(world: World, line: &[u8], room: &mut [u8], out: &mut [u8], at: usize) -> usize {
-    let args = read_call(
-        line,
-        b"lookup ia;get ia;cache ;neighbors ;queue ;routes ;destinations ;now ;slaac i;prefixes i;routers i;addresses i;source i;",
-        room,
-    );
-    if !args.ok {
-        return at;
-    }
-    call(world, args, out, at)
+// Answers a line, if it is one of these, and says whether it was.
+pub fn view_line(world: &World, line: &[u8], out: &mut Text) -> bool {
+    let Some(call) = read_call(line) else {
+        return false;
+    };
+    answer(world, call, out);
+    true
 }

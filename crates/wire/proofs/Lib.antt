@@ -3,3 +3,4 @@ pub mod Formed
 pub mod Masks
 pub mod RoundTrip
 pub mod Tests
+pub mod Words

@@ -1,14 +1,10 @@
 -- Document 01, "Refusal numbers". Assumes nothing.
-use Rattle.std.specs.Prelude.{ℕ, ◌^◌, ◌≡◌, Bool, true, cond, not, ◌&&◌, List, [], ◌∷◌, ltb, leb}
+use Rattle.std.specs.Prelude.{ℕ, ◌^◌, ◌≡◌, Bool, true, cond, not, ◌&&◌, List, [], ◌∷◌, ltb, leb, Result, Ok, Err}
 use Rattle.time.specs.declared.Instant.{Instant}
 use Rattle.wire.specs.declared.ethernet.HardwareAddress.{HardwareAddress}
 use Rattle.wire.specs.declared.ipv6.Ipv6Addr.{Ipv6Addr}
 use Rattle.wire.specs.declared.error.Refusal.{Refusal}
 use Rattle.wire.specs.declared.error.Refusal.TheVariants.{Malformed, NotUnicast, TooLate, NoRoom, NotAdvertisement, NotLinkLocal, NoSuchIface, Full, Duplicate, PrefixTooLong}
-use Rattle.wire.specs.declared.error.Check.{Check}
-use Rattle.wire.specs.declared.error.Check.TheVariants.{Fine, Refused}
-use Rattle.wire.specs.declared.error.Outcome.{Outcome}
-use Rattle.wire.specs.declared.error.Outcome.TheVariants.{Refused as NotDone, Done}
 use Rattle.wire.specs.Rfc4291.{is_unicast}
 use Rattle.wire.specs.Rfc2464.{is_unicast_hardware}
 
@@ -26,14 +22,14 @@ number_of Full = 8
 number_of NoRoom = 4
 
 -- a check's number: 0 for none
-abbrev pub check_number : Check → ℕ
-check_number Fine = 0
-check_number (Refused why) = number_of why
+abbrev pub check_number : Result (Unit {0}) Refusal → ℕ
+check_number (Ok tt) = 0
+check_number (Err why) = number_of why
 
 -- the number of an outcome: 0 for none
-abbrev pub outcome_number : Outcome → ℕ
-outcome_number (NotDone why) = number_of why
-outcome_number Done = 0
+abbrev pub outcome_number : Result (Unit {0}) Refusal → ℕ
+outcome_number (Err why) = number_of why
+outcome_number (Ok tt) = 0
 
 -- a row of the table: the refusal, and whether the call meets its "When"
 pub record Row : Type 0 where
@@ -41,9 +37,9 @@ pub record Row : Type 0 where
   pub fails : Bool
 
 -- "Checks go in the table's order": the first row that fails refuses the call
-abbrev pub first_refusal : List Row → Check
-first_refusal [] = Fine
-first_refusal (row ∷ rows) = cond row.fails (Refused row.refusal) (first_refusal rows)
+abbrev pub first_refusal : List Row → Result (Unit {0}) Refusal
+first_refusal [] = Ok tt
+first_refusal (row ∷ rows) = cond row.fails (Err row.refusal) (first_refusal rows)
 
 -- the number of that row, 0 where none fails
 abbrev pub first_number : List Row → ℕ
@@ -51,12 +47,12 @@ first_number [] = 0
 first_number (row ∷ rows) = cond row.fails (number_of row.refusal) (first_number rows)
 
 -- "A refusal returns its number and changes nothing.": what a call answers by its check, `refused` if it fails and `carriedOut` if not
-abbrev pub decided : {A : Type 0} → Check → (Refusal → A) → A → A
-decided (Refused why) refused carriedOut = refused why
-decided Fine refused carriedOut = carriedOut
+abbrev pub decided : {A : Type 0} → Result (Unit {0}) Refusal → (Refusal → A) → A → A
+decided (Err why) refused carriedOut = refused why
+decided (Ok tt) refused carriedOut = carriedOut
 
 -- a test of a call's arguments
-pub record Tested (rows : List Row) (r : Check) : Type 0 where
+pub record Tested (rows : List Row) (r : Result (Unit {0}) Refusal) : Type 0 where
   pub is : r ≡ first_refusal rows
   pub number : check_number r ≡ first_number rows
 
@@ -109,14 +105,14 @@ key_rows iface addr = no_such_iface iface ∷ not_unicast addr ∷ []
 abbrev pub fill_rows : Instant → ℕ → Ipv6Addr → HardwareAddress → List Row
 fill_rows t iface addr hw = too_late t ∷ no_such_iface iface ∷ not_unicast addr ∷ not_unicast_hardware hw ∷ []
 
-abbrev pub iface_check : ℕ → Check
+abbrev pub iface_check : ℕ → Result (Unit {0}) Refusal
 iface_check iface = first_refusal (iface_rows iface)
 
-abbrev pub time_check : Instant → ℕ → Check
+abbrev pub time_check : Instant → ℕ → Result (Unit {0}) Refusal
 time_check t iface = first_refusal (time_rows t iface)
 
-abbrev pub key_check : ℕ → Ipv6Addr → Check
+abbrev pub key_check : ℕ → Ipv6Addr → Result (Unit {0}) Refusal
 key_check iface addr = first_refusal (key_rows iface addr)
 
-abbrev pub fill_check : Instant → ℕ → Ipv6Addr → HardwareAddress → Check
+abbrev pub fill_check : Instant → ℕ → Ipv6Addr → HardwareAddress → Result (Unit {0}) Refusal
 fill_check t iface addr hw = first_refusal (fill_rows t iface addr hw)

@@ -1,5 +1,5 @@
 -- RFC 2464, IPv6 over Ethernet: hardware addresses and the interface identifier. Assumes nothing.
-use Rattle.std.specs.Prelude.{ℕ, ◌+◌, ◌-◌, ◌/◌, ◌%◌, Bool, cond, ◌&&◌, List, [], ◌∷◌, ◌++◌, ◌≡◌, get_or, drop, eqb}
+use Rattle.std.specs.Prelude.{ℕ, ◌+◌, ◌-◌, ◌/◌, ◌%◌, Bool, cond, List, [], ◌∷◌, ◌++◌, ◌≡◌, get_or, drop, eqb}
 use Rattle.wire.specs.Numbers.{u16_at, u32_at, u64_at, bytes16, bytes32}
 use Rattle.wire.specs.Rfc4291.{address_bytes, same_bytes_is}
 use Rattle.wire.specs.declared.ethernet.HardwareAddress.{HardwareAddress}
@@ -18,9 +18,6 @@ hardware_bytes a = bytes16 a.hi ++ bytes32 a.lo
 -- document 01: "A hardware address is unicast if the low bit of its first byte is 0."
 abbrev pub is_unicast_hardware : HardwareAddress → Bool
 is_unicast_hardware a = eqb (a.hi / 256 % 2) 0
-
-abbrev pub same_hardware : HardwareAddress → HardwareAddress → Bool
-same_hardware a b = eqb a.hi b.hi && eqb a.lo b.lo
 
 -- "first byte with 0x02 flipped"
 abbrev pub flipped : ℕ → ℕ

@@ -12,7 +12,7 @@ pub const LAST_IFACE: u8 = 3;
 // The latest time that a call may name: 2^62 ms.
 pub const LATEST: u64 = 0x4000_0000_0000_0000;
 
-#[derive(Clone, Copy)]
+#[derive(Debug, Clone, Copy, PartialEq, Eq)]
 pub enum Refusal {
     // A malformed option.
     Malformed,
@@ -36,20 +36,6 @@ pub enum Refusal {
     PrefixTooLong,
 }
 
-// Whether a call was carried out.
-#[derive(Clone, Copy)]
-pub enum Outcome {
-    Refused(Refusal),
-    Done,
-}
-
-// What testing a call's arguments gives.
-#[derive(Clone, Copy)]
-pub enum Check {
-    Fine,
-    Refused(Refusal),
-}
-
 impl Refusal {
     pub fn number(self) -> u8
         ensures { result ≡ number_of self }
@@ -70,60 +56,57 @@ impl Refusal {
 }
 
 // An interface's own number.
-pub fn check_iface(iface: u8) -> Check
+pub fn check_iface(iface: u8) -> Result<(), Refusal>
     ensures { Tested (iface_rows iface) result }
 {
     if iface > LAST_IFACE {
-        return Check::Refused(Refusal::NoSuchIface);
+        return Err(Refusal::NoSuchIface);
     }
-    Check::Fine
+    Ok(())
 }
 
 // A time, then the interface.
-pub fn check_time(at: Instant, iface: u8) -> Check
+pub fn check_time(at: Instant, iface: u8) -> Result<(), Refusal>
     ensures { Tested (time_rows at iface) result }
 {
     if at.0 > LATEST {
-        return Check::Refused(Refusal::TooLate);
+        return Err(Refusal::TooLate);
     }
     check_iface(iface)
 }
 
-fn check_unicast(addr: Ipv6Addr) -> Check
+fn check_unicast(addr: Ipv6Addr) -> Result<(), Refusal>
     ensures { Tested (not_unicast addr ∷ []) result }
 {
     if addr.is_unicast() {
-        return Check::Fine;
+        return Ok(());
     }
-    Check::Refused(Refusal::NotUnicast)
+    Err(Refusal::NotUnicast)
 }
 
 // The interface, then a neighbour's address.
-pub fn check_key(iface: u8, addr: Ipv6Addr) -> Check
+pub fn check_key(iface: u8, addr: Ipv6Addr) -> Result<(), Refusal>
     ensures { Tested (key_rows iface addr) result }
 {
-    let check = check_iface(iface);
-    match check {
-        Check::Refused(why) => Check::Refused(why),
-        Check::Fine => check_unicast(addr),
-    }
+    check_iface(iface)?;
+    check_unicast(addr)
 }
 
 // A time, the interface, a neighbour's address, its hardware address.
-pub fn check_fill(at: Instant, iface: u8, addr: Ipv6Addr, hardware_addr: HardwareAddress) -> Check
+pub fn check_fill(
+    at: Instant,
+    iface: u8,
+    addr: Ipv6Addr,
+    hardware_addr: HardwareAddress,
+) -> Result<(), Refusal>
     ensures { Tested (fill_rows at iface addr hardware_addr) result }
 {
     if at.0 > LATEST {
-        return Check::Refused(Refusal::TooLate);
+        return Err(Refusal::TooLate);
     }
-    let check = check_key(iface, addr);
-    match check {
-        Check::Refused(why) => Check::Refused(why),
-        Check::Fine => {
-            if hardware_addr.is_unicast() {
-                return Check::Fine;
-            }
-            Check::Refused(Refusal::NotUnicast)
-        }
+    check_key(iface, addr)?;
+    if hardware_addr.is_unicast() {
+        return Ok(());
     }
+    Err(Refusal::NotUnicast)
 }

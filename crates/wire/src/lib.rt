@@ -1,7 +1,6 @@
-// What the other crates share of the wire: addresses, big-endian numbers, and the refusals of document 01.
+// What the other crates share of the wire: addresses, and the refusals of document 01.
 #![tactic(auto)]
 
-pub mod byteorder;
 pub mod error;
 pub mod ethernet;
 pub mod ipv6;

@@ -9,7 +9,6 @@ use neighbor::NeighborCache;
 use pending::PendingQueue;
 use slaac::Slaac;
 use time::{Clock, Instant};
-use wire::error::LAST_IFACE;
 use wire::ethernet::HardwareAddress;
 
 const IFACE_COUNT: usize = 4;
@@ -36,56 +35,36 @@ pub struct World {
     pub clock: Clock,
 }
 
-// What a line leaves: the state, and the place after what it printed.
-#[derive(Clone, Copy)]
-pub struct After {
-    pub world: World,
-    pub at: usize,
-}
-
 // Where an interface's state is kept. One above 3 is refused by the call that is given it, which hands back the last one's as it was.
 fn place(iface: u8) -> usize
     ensures { result < 4 }
 {
-    if iface > LAST_IFACE {
-        return IFACE_COUNT - 1;
-    }
-    iface as usize
+    (iface as usize).min(IFACE_COUNT - 1)
 }
 
 impl World {
     // SLAAC is on, the link is down, and the tables are empty. All interfaces have one hardware address.
     pub fn new(hardware_addr: HardwareAddress, first: u64) -> World {
-        let slaac = Slaac::new();
-        let addrs = IfaceAddrs::new();
         let iface = IfaceState {
-            slaac,
-            addrs,
+            slaac: Slaac::new(),
+            addrs: IfaceAddrs::new(),
             up: false,
         };
-        let ifaces = [iface; IFACE_COUNT];
-        let cache = NeighborCache::new();
-        let queue = PendingQueue::new();
-        let routes = Routes::new();
-        let clock = Clock::new(Instant(first));
         World {
-            ifaces,
+            ifaces: [iface; IFACE_COUNT],
             hardware_addr,
-            cache,
-            queue,
-            routes,
-            clock,
+            cache: NeighborCache::new(),
+            queue: PendingQueue::new(),
+            routes: Routes::new(),
+            clock: Clock::new(Instant(first)),
         }
     }
 
-    pub fn iface(self, iface: u8) -> IfaceState {
-        let i = place(iface);
-        self.ifaces[i]
+    pub fn iface(&self, iface: u8) -> &IfaceState {
+        &self.ifaces[place(iface)]
     }
 
-    pub fn with_iface(mut self, iface: u8, state: IfaceState) -> World {
-        let i = place(iface);
-        self.ifaces[i] = state;
-        self
+    pub fn iface_mut(&mut self, iface: u8) -> &mut IfaceState {
+        &mut self.ifaces[place(iface)]
     }
 }

@@ -1,6 +1,6 @@
 use Rattle.std.proofs.Common.{refl, sym, ◌∙◌}
 use Rattle.ndisc.proofs.Walks.{option_goes}
-use Rattle.autoconf.proofs.AdvertLaws.{teaching, teach_by, taught, stops}
+use Rattle.autoconf.proofs.AdvertLaws.{teaching, teach_by, teach_none, taught, stops}
 use Rattle.autoconf.proofs.learn_options.Goals as goal
 
 pub loop-option-init : goal.loop-option-init
@@ -11,30 +11,15 @@ loop-option-preserved-in-SourceLinkLayerAddr c =
     let w = option_goes c.args.msg.now c.loop-option.at _ _ (sym c.next_option.ensures.is ∙ c.in-Option.is) in
     teach_by c.loop-option.invariant _ _ _ _ _ w.options_on c.in-SourceLinkLayerAddr.is refl refl
 
-pub loop-option-preserved-in-TargetLinkLayerAddr : goal.loop-option-preserved-in-TargetLinkLayerAddr
-loop-option-preserved-in-TargetLinkLayerAddr c =
-    let w = option_goes c.args.msg.now c.loop-option.at _ _ (sym c.next_option.ensures.is ∙ c.in-Option.is) in
-    teach_by c.loop-option.invariant _ _ _ _ _ w.options_on c.in-TargetLinkLayerAddr.is refl refl
-
 pub loop-option-preserved-in-PrefixInformation : goal.loop-option-preserved-in-PrefixInformation
 loop-option-preserved-in-PrefixInformation c =
     let w = option_goes c.args.msg.now c.loop-option.at _ _ (sym c.next_option.ensures.is ∙ c.in-Option.is) in
-    teach_by c.loop-option.invariant _ _ _ _ _ w.options_on c.in-PrefixInformation.is c.process_prefix-learned.ensures refl
-
-pub loop-option-preserved-in-RedirectedHeader : goal.loop-option-preserved-in-RedirectedHeader
-loop-option-preserved-in-RedirectedHeader c =
-    let w = option_goes c.args.msg.now c.loop-option.at _ _ (sym c.next_option.ensures.is ∙ c.in-Option.is) in
-    teach_by c.loop-option.invariant _ _ _ _ _ w.options_on c.in-RedirectedHeader.is refl refl
-
-pub loop-option-preserved-in-Mtu : goal.loop-option-preserved-in-Mtu
-loop-option-preserved-in-Mtu c =
-    let w = option_goes c.args.msg.now c.loop-option.at _ _ (sym c.next_option.ensures.is ∙ c.in-Option.is) in
-    teach_by c.loop-option.invariant _ _ _ _ _ w.options_on c.in-Mtu.is refl refl
+    teach_by c.loop-option.invariant _ _ _ _ _ w.options_on c.in-PrefixInformation.is c.process_prefix-slaac.ensures refl
 
 pub loop-option-preserved : goal.loop-option-preserved
 loop-option-preserved c =
     let w = option_goes c.args.msg.now c.loop-option.at _ _ (sym c.next_option.ensures.is ∙ c.in-Option.is) in
-    teach_by c.loop-option.invariant _ _ _ _ _ w.options_on c.in-Unknown.is refl refl
+    teach_none c.loop-option.invariant _ _ w.options_on c.in_default-option.not-SourceLinkLayerAddr c.in_default-option.not-PrefixInformation
 
 pub returns : goal.returns
 returns c = taught c.loop-option.invariant (stops c.args.msg.now c.loop-option.at _ c.next_option.ensures.is c.in_default.not-Option)

@@ -1,3 +1,4 @@
+use borrow.Author.Tests.{not-false, not-true}
 use Rattle.autoconf.proofs.PollLaws.{turn_none, turn_early, turn_sent, turn_full, down, nowhere, somewhere}
 use Rattle.autoconf.proofs.ndisc_rs_egress.Goals as goal
 
@@ -9,13 +10,13 @@ returns-in_default c = turn_none _ _ _ _ _ (nowhere c.args.up c.args.source c.in
 
 pub returns-in-NoRoom : goal.returns-in-NoRoom
 returns-in-NoRoom c =
-    turn_full _ _ _ _ _ _ (somewhere c.args.up c.args.source _ c.if-not-up.false c.in-From.is) _ c.solicit-solicitation.ensures c.if-solicitation.true _ _
+    turn_full _ _ _ _ _ _ (somewhere c.args.up c.args.source _ c.if-not-up.false c.in-Some.is) _ c.solicit-solicitation.ensures (not-false _ c.if-not-solicitation.false) _ _
     c.write_solicit.ensures c.in-NoRoom.is
 
 pub returns-in-Written : goal.returns-in-Written
 returns-in-Written c =
-    turn_sent _ _ _ _ _ _ (somewhere c.args.up c.args.source _ c.if-not-up.false c.in-From.is) _ c.solicit-solicitation.ensures c.if-solicitation.true _ _
+    turn_sent _ _ _ _ _ _ (somewhere c.args.up c.args.source _ c.if-not-up.false c.in-Some.is) _ c.solicit-solicitation.ensures (not-false _ c.if-not-solicitation.false) _ _
     c.write_solicit.ensures c.in-Written.is
 
-pub returns : goal.returns
-returns c = turn_early _ _ _ _ _ _ (somewhere c.args.up c.args.source _ c.if-not-up.false c.in-From.is) _ c.solicit-solicitation.ensures c.if-solicitation.false
+pub returns-then-not-solicitation : goal.returns-then-not-solicitation
+returns-then-not-solicitation c = turn_early _ _ _ _ _ _ (somewhere c.args.up c.args.source _ c.if-not-up.false c.in-Some.is) _ c.solicit-solicitation.ensures (not-true _ c.if-not-solicitation.true)

@@ -8,7 +8,7 @@ returns-then-sync_due c = let a = c.args in
     poll_on_lem a.slaac a.addrs a.routes a.iface a.up a.hardware_addr a.buf.now a.clock (sym c.check_time.ensures.is ∙ c.in_default.is) _ _ _ _
     (not-false a.slaac.on c.if-not-slaac.false) c.link_local_ipv6_address-source.ensures.is c.ndisc_rs_egress-turn.ensures refl
     (sync_due_lem a.slaac c.ndisc_rs_egress-turn.result.discovery _ _ _ _ _ _ _ _ c.is_sync_due-sync_due.ensures _ _ _ c.if-sync_due.true
-    c.update_slaac_state-synced.ensures c.sync_addrs-synced_addrs.ensures c.sync_routes-synced_routes.ensures)
+    c.update_slaac_state.ensures c.sync_addrs.ensures c.sync_routes.ensures)
 
 pub returns : goal.returns
 returns c = let a = c.args in

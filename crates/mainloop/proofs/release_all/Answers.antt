@@ -1,22 +1,29 @@
-use Rattle.std.proofs.Common.{◌≡◌, length, rules, arith}
+use Rattle.std.proofs.Common.{◌≡◌, length, rules, arith, refl, ap, sym, None, ◌∙◌}
+use Rattle.std.specs.Result.{result_unwrap_or}
 use Rattle.neighbor.specs.CacheCalls.{key}
 use Rattle.table.proofs.Laws.{mapped}
-use Rattle.mainloop.proofs.ReadyLaws.{releasing, goes_on, ends_full, ends_none}
+use Rattle.mainloop.proofs.ReadyLaws.{handle_given, releasing, goes_on, ends_full, ends_none}
 use Rattle.mainloop.proofs.release_all.Goals as goal
 
-pub loop-len-init : goal.loop-len-init
-loop-len-init c =
+pub loop-i-init : goal.loop-i-init
+loop-i-init c =
     let full : length c.args.queue.slots ≡ 8 = search (rules, mapped) in
-    releasing (key 0 c.args.addr) c.args.queue full
+    rw c.new-handles.ensures (record { released = releasing (key 0 c.args.addr) c.args.queue full; count = refl })
 
-pub loop-len-preserved : goal.loop-len-preserved
-loop-len-preserved c =
-    goes_on c.args.addr c.loop-len.invariant c.release-released.result c.release-released.ensures c.in-Handle.handle c.in-Handle.is (omega arith)
+pub loop-i-preserved : goal.loop-i-preserved
+loop-i-preserved c =
+    record {
+      released =
+          goes_on c.args.addr c.loop-i.invariant.released c.release-released.result c.release-released.ensures c.in-Some.handle
+          (handle_given c.release-released.result.answer c.in-Some.handle (sym c.unwrap_or.ensures ∙ c.in-Some.is)) (omega arith);
+      count = refl;
+    }
 
-pub returns-after-loop-len : goal.returns-after-loop-len
-returns-after-loop-len c = ends_full (key 0 c.args.addr) c.loop-len.invariant (omega arith) (omega (arith, c.loop-len.invariant.few))
+pub returns-after-loop-i : goal.returns-after-loop-i
+returns-after-loop-i c = ends_full (key 0 c.args.addr) c.loop-i.invariant.released c.loop-i.invariant.count (omega arith) (omega (arith, c.loop-i.invariant.released.few))
 
 pub returns-in_default : goal.returns-in_default
 returns-in_default c =
-    ends_none c.args.addr c.loop-len.invariant c.release-released.result c.release-released.ensures c.in_default.not-Handle
-    (omega (arith, c.loop-len.invariant.few))
+    ends_none c.args.addr c.loop-i.invariant.released c.release-released.result c.release-released.ensures c.loop-i.invariant.count
+    (λ h e. c.in_default.not-Some h (c.unwrap_or.ensures ∙ ap (λ a. result_unwrap_or a None) e))
+    (omega (arith, c.loop-i.invariant.released.few))

@@ -1,4 +1,5 @@
 use Rattle.std.proofs.Common.{◌≡◌, length, replicate, ap, rules, arith}
+use Rattle.std.proofs.lemmas.List.{length-take}
 use Rattle.table.proofs.Laws.{mapped}
 use Rattle.mainloop.proofs.LoopLaws.{run_starts, run_on, run_done}
 use Rattle.mainloop.proofs.run.Goals as goal
@@ -11,9 +12,11 @@ loop-i-init c =
 
 pub loop-i-preserved : goal.loop-i-preserved
 loop-i-preserved c =
-    run_on c.args.received.now c.args.hardware_addr _ c.args.inbox.slots c.args.inbox.len c.args.budget c.loop-i.invariant (omega arith)
-    c.turn-turned.result c.turn-turned.new.buf c.turn-turned.ensures
+    run_on c.args.received.now c.args.hardware_addr _ c.args.inbox.slots c.args.inbox.len c.args.budget c.loop-i.invariant
+    (omega (arith, length-take c.count_of-turns.result c.args.inbox.slots)) c.turn-turned.result c.turn-turned.new.buf c.turn-turned.ensures
 
 pub returns : goal.returns
 returns c =
-    run_done c.args.received.now c.args.hardware_addr c.args.card c.args.wake c.args.inbox c.args.buf.now c.args.budget c.loop-i.invariant (omega arith)
+    let full : length c.args.inbox.slots ≡ 4 = search (rules, mapped) in
+    run_done c.args.received.now c.args.hardware_addr c.args.card c.args.wake c.args.inbox c.args.buf.now c.args.budget c.loop-i.invariant
+    (omega (arith, full, c.loop-i.invariant.most, length-take c.count_of-turns.result c.args.inbox.slots))

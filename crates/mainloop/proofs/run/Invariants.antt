@@ -1,12 +1,8 @@
-use Rattle.std.proofs.Common.{◌-◌}
 use Rattle.mainloop.specs.LoopRules.{before}
 use Rattle.mainloop.proofs.LoopLaws.{Running}
 use Rattle.mainloop.proofs.run.Given as goal
 
 abbrev pub invariant-loop-i : goal.invariant-loop-i
 invariant-loop-i l =
-    Running l.received l.hardware_addr (before l.initial.sleeping l.initial.sleep_until l.initial.buf) l.inbox.slots l.inbox.len l.budget l.turns
+    Running l.received l.hardware_addr (before l.initial.sleeping l.initial.sleep_until l.initial.buf) l.fn.inbox.slots l.fn.inbox.len l.budget l.turns
     l.sleeping l.sleep_until l.buf l.reports l.i
-
-abbrev pub decreases-loop-i : goal.decreases-loop-i
-decreases-loop-i l = l.turns - l.i

@@ -1,23 +1,24 @@
+use Rattle.std.proofs.Common.{refl, ◌∙◌, ap, Ok}
 use Rattle.mainloop.proofs.LoopLaws.{send_refused, send_known, send_waits, send_starts}
 use Rattle.mainloop.proofs.send.Goals as goal
 
-pub returns-in-Refused : goal.returns-in-Refused
-returns-in-Refused c =
-    send_refused c.args.card c.args.addr c.args.handle c.lookup-known.result c.lookup-known.ensures c.in-Refused.why c.in-Refused.is
-    c.no_handles.result c.no_handles.ensures
+pub returns-in-Err : goal.returns-in-Err
+returns-in-Err c =
+    c.not_taken.ensures ∙ send_refused c.args.card c.args.addr c.args.handle c.lookup.result c.lookup.ensures c.in-Err.why c.in-Err.is
+    _ refl
 
-pub returns-in-Found : goal.returns-in-Found
-returns-in-Found c =
-    send_known c.args.card c.args.addr c.args.handle c.lookup-known.result c.lookup-known.ensures c.in-Found.hardware_addr c.in-Found.is
-    c.one_handle.result c.one_handle.ensures
+pub returns-in-Ok-Found : goal.returns-in-Ok-Found
+returns-in-Ok-Found c =
+    send_known c.args.card c.args.addr c.args.handle c.lookup.result c.lookup.ensures c.in-Ok-Found.hardware_addr (c.in-Ok-Found.is ∙ ap Ok c.in-Ok-Found.field-0-is)
+    c.one.result c.one.ensures
 
-pub returns-in-Pending : goal.returns-in-Pending
-returns-in-Pending c =
-    send_waits c.args.card c.args.addr c.args.handle c.lookup-known.result c.lookup-known.ensures c.in-Pending.is
-    c.push-pushed.result c.push-pushed.ensures c.no_handles-in-Pending.result c.no_handles-in-Pending.ensures
+pub returns-in-Ok-Pending : goal.returns-in-Ok-Pending
+returns-in-Ok-Pending c =
+    send_waits c.args.card c.args.addr c.args.handle c.lookup.result c.lookup.ensures (c.in-Ok-Pending.is ∙ ap Ok c.in-Ok-Pending.field-0-is)
+    c.push-pushed.result c.push-pushed.ensures c.new.result c.new.ensures
 
-pub returns-in-NotFound : goal.returns-in-NotFound
-returns-in-NotFound c =
-    send_starts c.args.card c.args.addr c.args.handle c.lookup-known.result c.lookup-known.ensures c.in-NotFound.is
-    c.push-pushed-in-NotFound.result c.push-pushed-in-NotFound.ensures c.start_resolution-started.result c.start_resolution-started.ensures
-    c.no_handles-in-NotFound.result c.no_handles-in-NotFound.ensures
+pub returns-in-Ok-NotFound : goal.returns-in-Ok-NotFound
+returns-in-Ok-NotFound c =
+    send_starts c.args.card c.args.addr c.args.handle c.lookup.result c.lookup.ensures (c.in-Ok-NotFound.is ∙ ap Ok c.in-Ok-NotFound.field-0-is)
+    c.push-pushed-in-Ok-NotFound.result c.push-pushed-in-Ok-NotFound.ensures c.start_resolution-started.result c.start_resolution-started.ensures
+    c.new-in-Ok-NotFound.result c.new-in-Ok-NotFound.ensures

@@ -1,22 +1,39 @@
-use Rattle.std.proofs.Common.{sym, ◌∙◌}
-use Rattle.lines.proofs.LineLaws.{cut_at, kind_word, kind_ra, kind_start, kind_fill, kind_remove, kind_none}
-use Rattle.text.proofs.FieldLaws.{one_field}
+use Rattle.std.proofs.Common.{true, false, ◌≡◌}
+use Rattle.std.specs.Str.{bytes_eq}
+use Rattle.lines.proofs.LineLaws.{kind_word, kind_ra, kind_start, kind_fill, kind_remove, kind_none}
+use Rattle.lines.specs.Words.{ra, start, fill, remove}
 use Rattle.lines.proofs.event.read_event.Goals as goal
 
-pub returns-then-end-rest : goal.returns-then-end-rest
-returns-then-end-rest c = kind_word c.args.rest.now c.args.message.now _ (one_field c.args.rest.now c.space-end.result c.space-end.ensures c.if-end-rest.true) c.read_word.ensures.0 c.read_word.ensures.1
+pub returns-in_default : goal.returns-in_default
+returns-in_default c = kind_word c.args.rest.now c.args.message.now _ c.in_default.ensures c.read_word.ensures.0 c.read_word.ensures.1
 
-pub returns-then-is : goal.returns-then-is
-returns-then-is c = kind_ra c.args.rest.now c.args.message.now _ _ (cut_at c.args.rest.now c.space-end.result c.space-end.ensures c.if-end-rest.false) _ _ (sym c.is.ensures ∙ c.if-is.true) c.read_ra.ensures
+pub returns-then-eq : goal.returns-then-eq
+returns-then-eq c =
+    let p : bytes_eq c.in-Some.word.now ra ≡ true = cc in
+    kind_ra c.args.rest.now c.args.message.now _ _ c.in-Some.ensures _ _ p c.read_ra.ensures
 
-pub returns-then-is-2 : goal.returns-then-is-2
-returns-then-is-2 c = kind_start c.args.rest.now c.args.message.now _ _ (cut_at c.args.rest.now c.space-end.result c.space-end.ensures c.if-end-rest.false) (sym c.is.ensures ∙ c.if-is.false) _ (sym c.is-2.ensures ∙ c.if-is-2.true) c.read_start.ensures
+pub returns-then-eq-2 : goal.returns-then-eq-2
+returns-then-eq-2 c =
+    let p : bytes_eq c.in-Some.word.now ra ≡ false = cc in
+    let q : bytes_eq c.in-Some.word.now start ≡ true = cc in
+    kind_start c.args.rest.now c.args.message.now _ _ c.in-Some.ensures p _ q c.read_start.ensures
 
-pub returns-then-is-3 : goal.returns-then-is-3
-returns-then-is-3 c = kind_fill c.args.rest.now c.args.message.now _ _ (cut_at c.args.rest.now c.space-end.result c.space-end.ensures c.if-end-rest.false) (sym c.is.ensures ∙ c.if-is.false) _ (sym c.is-3.ensures ∙ c.if-is-3.true) c.read_fill.ensures
+pub returns-then-eq-3 : goal.returns-then-eq-3
+returns-then-eq-3 c =
+    let p : bytes_eq c.in-Some.word.now ra ≡ false = cc in
+    let q : bytes_eq c.in-Some.word.now fill ≡ true = cc in
+    kind_fill c.args.rest.now c.args.message.now _ _ c.in-Some.ensures p _ q c.read_fill.ensures
 
-pub returns-then-is-4 : goal.returns-then-is-4
-returns-then-is-4 c = kind_remove c.args.rest.now c.args.message.now _ _ (cut_at c.args.rest.now c.space-end.result c.space-end.ensures c.if-end-rest.false) (sym c.is.ensures ∙ c.if-is.false) _ (sym c.is-4.ensures ∙ c.if-is-4.true) c.read_remove.ensures
+pub returns-then-eq-4 : goal.returns-then-eq-4
+returns-then-eq-4 c =
+    let p : bytes_eq c.in-Some.word.now ra ≡ false = cc in
+    let q : bytes_eq c.in-Some.word.now remove ≡ true = cc in
+    kind_remove c.args.rest.now c.args.message.now _ _ c.in-Some.ensures p _ q c.read_remove.ensures
 
-pub returns : goal.returns
-returns c = kind_none c.args.rest.now c.args.message.now _ _ (cut_at c.args.rest.now c.space-end.result c.space-end.ensures c.if-end-rest.false) (sym c.is.ensures ∙ c.if-is.false) (sym c.is-2.ensures ∙ c.if-is-2.false) (sym c.is-3.ensures ∙ c.if-is-3.false) (sym c.is-4.ensures ∙ c.if-is-4.false)
+pub returns-else-eq-4 : goal.returns-else-eq-4
+returns-else-eq-4 c =
+    let p : bytes_eq c.in-Some.word.now ra ≡ false = cc in
+    let q : bytes_eq c.in-Some.word.now start ≡ false = cc in
+    let r : bytes_eq c.in-Some.word.now fill ≡ false = cc in
+    let t : bytes_eq c.in-Some.word.now remove ≡ false = cc in
+    kind_none c.args.rest.now c.args.message.now _ _ c.in-Some.ensures p q r t

@@ -1,10 +1,7 @@
-use Rattle.std.proofs.Common.{◌-◌, length}
+use Rattle.std.proofs.Common.{◌*◌}
 use Rattle.ndisc.proofs.Checksum.{Summing}
 use Rattle.ndisc.proofs.icmpv6.sum.Given as goal
 
 -- the words so far are summed
-abbrev pub invariant-loop-i : goal.invariant-loop-i
-invariant-loop-i l = Summing l.«data» l.accum l.i
-
-abbrev pub decreases-loop-i : goal.decreases-loop-i
-decreases-loop-i l = length l.«data» - l.i
+abbrev pub invariant-loop-pair : goal.invariant-loop-pair
+invariant-loop-pair l = Summing l.«data» l.accum (l.pair-index * 2)

@@ -1,13 +1,11 @@
-use Rattle.std.proofs.Common.{arith, eq-eqb, ne_eqb}
-use Rattle.neighbor.specs.CacheCalls.{blank}
+use Rattle.std.proofs.Common.{rules, sym, ◌∙◌}
+use Rattle.neighbor.proofs.Calls.{change_done, cleared}
 use Rattle.neighbor.specs.NeighborRules.{on_iface}
-use Rattle.table.proofs.Laws.{one_gone, one_kept}
+use Rattle.neighbor.specs.CacheCalls.{clear_in}
 use Rattle.neighbor.proofs.NeighborCache.clear_iface.Goals as goal
 
-pub loop-i-preserved-then-iface-cache : goal.loop-i-preserved-then-iface-cache
+pub returns : goal.returns
 unfolding on_iface
-loop-i-preserved-then-iface-cache c = one_kept blank c.loop-i.invariant (omega arith) (ne_eqb _ _ c.if-iface-cache.true)
-
-pub loop-i-preserved : goal.loop-i-preserved
-unfolding on_iface
-loop-i-preserved c = one_gone blank c.loop-i.invariant (omega arith) (eq-eqb _ _ c.if-iface-cache.false)
+returns c =
+    let k = c.retain.ensures (on_iface c.args.iface) (λ x b h. search rules) in
+    change_done _ c.args.self (clear_in c.args.self c.args.iface) (sym c.check_iface.ensures.is ∙ c.in_default.is) (cleared c.args.self c.args.iface _ (search rules) c.count_of-count.ensures k)

@@ -1,12 +1,14 @@
-use Rattle.std.proofs.Common.{arith, sym, ◌∙◌}
-use Rattle.neighbor.proofs.Calls.{put_over_lem, put_end, put_victim}
+use Rattle.std.proofs.Common.{rules, arith}
+use Rattle.neighbor.proofs.Calls.{put_over, put_end, put_victim}
+use Rattle.neighbor.proofs.NeighborCache.insert_state.Goals.{in-Some, in-None, in-None-2}
+use Rattle.neighbor.specs.NeighborRules.{key_of}
 use Rattle.neighbor.proofs.NeighborCache.insert_state.Goals as goal
 
-pub returns-then-has_key : goal.returns-then-has_key
-returns-then-has_key c = put_over_lem _ c.loop-i.invariant (omega arith) (sym c.has_key.ensures ∙ c.if-has_key.true)
-
-pub returns-then-count-lt-NEIGHBOR_CACHE_COUNT : goal.returns-then-count-lt-NEIGHBOR_CACHE_COUNT
-returns-then-count-lt-NEIGHBOR_CACHE_COUNT c = put_end _ c.loop-i.invariant (omega arith) (omega arith)
-
 pub returns : goal.returns
-returns c = put_victim _ c.loop-i.invariant _ (omega arith) (omega arith) c.evicted-index.ensures.0 c.evicted-index.ensures.1
+returns c =
+    elim c.match-find.branch [
+      | in-Some w ↦ rw w.at-is (put_over c.args.self (key_of c.args.entry) c.args.entry.state _ (search rules) c.count_of-count.ensures _ w.in-Some.ensures.place)
+      | in-None w ↦ rw w.at-is (put_end c.args.self (key_of c.args.entry) c.args.entry.state _ (search rules) c.count_of-count.ensures w.in-None.ensures.place (omega arith))
+      | in-None-2 w ↦
+          rw w.at-is (put_victim c.args.self (key_of c.args.entry) c.args.entry.state _ (search rules) c.count_of-count.ensures w.in-None.ensures.place _ (omega arith) w.evicted.ensures.0 w.evicted.ensures.1)
+    ]

@@ -1,15 +1,12 @@
-use Rattle.std.proofs.Common.{arith, sym, ◌∙◌}
-use Rattle.neighbor.proofs.Calls.{looked}
-use Rattle.neighbor.specs.CacheCalls.{blank}
+use Rattle.std.specs.Prelude.{Ok}
+use Rattle.std.proofs.Common.{ap, sym, ◌∙◌}
+use Rattle.neighbor.proofs.Calls.{looked, of_place, of_none}
+use Rattle.neighbor.specs.CacheCalls.{blank, answer_in}
 use Rattle.neighbor.specs.declared.Answer.TheVariants.{NotFound}
-use Rattle.table.proofs.Laws.{scan_next, scan_found, scan_none}
 use Rattle.neighbor.proofs.NeighborCache.lookup.Goals as goal
 
-pub returns-then-has_key : goal.returns-then-has_key
-returns-then-has_key c = looked c.args.self c.args.iface c.args.addr _ (sym c.check_key-check.ensures.is ∙ c.in-Fine.is) (c.answer.ensures ∙ scan_found blank c.loop-i.invariant (omega arith) (sym c.has_key.ensures ∙ c.if-has_key.true))
+pub returns-in-Some : goal.returns-in-Some
+returns-in-Some c = looked c.args.self c.args.iface c.args.addr _ (sym c.check_key.ensures.is ∙ c.in_ok-check_key.was) (ap Ok c.answer.ensures ∙ of_place blank _ answer_in (Ok NotFound) _ _ _ c.in-Some.ensures.place)
 
-pub loop-i-preserved : goal.loop-i-preserved
-loop-i-preserved c = scan_next blank c.loop-i.invariant (omega arith) (sym c.has_key.ensures ∙ c.if-has_key.false)
-
-pub returns : goal.returns
-returns c = looked c.args.self c.args.iface c.args.addr NotFound (sym c.check_key-check.ensures.is ∙ c.in-Fine.is) (scan_none blank c.loop-i.invariant (omega arith))
+pub returns-in-None : goal.returns-in-None
+returns-in-None c = looked c.args.self c.args.iface c.args.addr _ (sym c.check_key.ensures.is ∙ c.in_ok-check_key.was) (of_none blank _ answer_in (Ok NotFound) _ c.in-None.ensures.place)

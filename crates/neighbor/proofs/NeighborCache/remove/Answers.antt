@@ -1,9 +1,9 @@
-use Rattle.std.proofs.Common.{arith, sym, ◌∙◌}
-use Rattle.neighbor.proofs.Calls.{remove_none, removed, taken_from}
+use Rattle.std.proofs.Common.{rules, sym, ◌∙◌}
+use Rattle.neighbor.proofs.Calls.{remove_none, removed}
 use Rattle.neighbor.proofs.NeighborCache.remove.Goals as goal
 
-pub returns-then-has_key : goal.returns-then-has_key
-returns-then-has_key c = taken_from c.loop-i.invariant.same (removed c.loop-i.cache c.args.iface c.args.addr c.loop-i.invariant.place (sym c.check_iface-check.ensures.is ∙ c.in-Fine.is) _ (omega arith) (sym c.has_key.ensures ∙ c.if-has_key.true) c.listed-taken.ensures)
+pub returns-in_default-find : goal.returns-in_default-find
+returns-in_default-find c = remove_none c.args.self c.args.iface c.args.addr (sym c.check_iface.ensures.is ∙ c.in_default.is) c.in_default-find.ensures.place
 
 pub returns : goal.returns
-returns c = taken_from c.loop-i.invariant.same (remove_none c.loop-i.cache c.args.iface c.args.addr c.loop-i.invariant.place (sym c.check_iface-check.ensures.is ∙ c.in-Fine.is) (omega arith))
+returns c = removed c.args.self c.args.iface c.args.addr (sym c.check_iface.ensures.is ∙ c.in_default.is) _ _ _ (search rules) c.count_of-count.ensures c.in-Some.ensures.place c.listed-taken.ensures

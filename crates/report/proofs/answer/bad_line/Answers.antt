@@ -4,4 +4,4 @@ use Rattle.report.proofs.answer.bad_line.Goals as goal
 
 pub returns : goal.returns
 unfolding bad_line
-returns c = chain (chain c.word-after_word.ensures c.number-after_line.ensures) c.byte.ensures
+returns c = chain (chain c.word.ensures c.number.ensures) c.byte.ensures

@@ -4,4 +4,4 @@ use Rattle.report.proofs.answer.off.Goals as goal
 
 pub returns : goal.returns
 unfolding off_line
-returns c = chain c.number-after_time.ensures c.word.ensures
+returns c = chain c.number.ensures c.word.ensures

@@ -1,20 +1,24 @@
-use Rattle.std.proofs.Common.{rules, length, [], ◌≡◌}
+use Rattle.std.proofs.Common.{rules, arith, length, ◌≡◌}
 use Rattle.sweep.specs.SweepCalls.{blank_event}
 use Rattle.report.proofs.Lengths.{probes_short}
-use Rattle.report.proofs.ListingLaws.{listing, list_next, listed_all, few}
-use Rattle.report.specs.AnswerLines.{probe_lines}
+use Rattle.report.proofs.ListingLaws.{one_listed, all_listed, few}
+use Rattle.report.specs.AnswerLines.{probe_line, probe_lines}
 use Rattle.table.proofs.Laws.{mapped}
 use Rattle.text.proofs.PlaceLaws.{put_none}
 use Rattle.report.proofs.answer.probes.Goals as goal
 
-pub loop-i-init : goal.loop-i-init
-loop-i-init c =
-    let full : length c.args.events.slots ≡ 16 = search (rules, mapped) in
-    listing 16 _ [] c.args.events.slots c.args.events.len _ full c.count_of-count.ensures (put_none _ _)
+pub loop-event-init : goal.loop-event-init
+loop-event-init c = put_none _ _
 
-pub loop-i-preserved : goal.loop-i-preserved
-loop-i-preserved c = list_next blank_event c.loop-i.invariant c.loop-i-test.true c.probe-next.ensures
+pub loop-event-preserved : goal.loop-event-preserved
+loop-event-preserved c = one_listed blank_event _ _ _ c.loop-event-test.true c.loop-event.invariant c.probe.ensures
 
 pub returns : goal.returns
 unfolding probe_lines
-returns c = record { put = listed_all c.loop-i.invariant c.loop-i-test.false; short = probes_short c.args.time c.args.events (few c.loop-i.invariant) }
+returns c =
+    let v = c.args.events in
+    let full : length v.slots ≡ 16 = search (rules, mapped) in
+    record {
+      put = all_listed (probe_line c.args.time) v.slots v.len c.count_of-count.result c.loop-event.event-index (omega arith) c.loop-event-test.false c.loop-event.invariant;
+      short = probes_short c.args.time v (few v.slots v.len 16 full);
+    }

@@ -4,4 +4,4 @@ use Rattle.report.proofs.answer.refused.Goals as goal
 
 pub returns : goal.returns
 unfolding refused_line
-returns c = chain (chain (chain c.number-after_time.ensures c.word-after_word.ensures) c.number-after_number.ensures) c.byte.ensures
+returns c = chain (chain (chain c.number.ensures c.word.ensures) c.number-2.ensures) c.byte.ensures

@@ -4,4 +4,4 @@ use Rattle.report.proofs.answer.solicit.Goals as goal
 
 pub returns : goal.returns
 unfolding solicit_line
-returns c = chain (chain (chain c.number-after_time.ensures c.word-after_word.ensures) c.hexes-after_message.ensures) c.byte.ensures
+returns c = chain (chain (chain c.number.ensures c.word.ensures) c.hexes.ensures) c.byte.ensures

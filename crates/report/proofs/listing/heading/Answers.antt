@@ -4,4 +4,4 @@ use Rattle.report.proofs.listing.heading.Goals as goal
 
 pub returns : goal.returns
 unfolding heading_line
-returns c = chain (chain c.word-after_name.ensures c.number-after_count.ensures) c.byte.ensures
+returns c = chain (chain c.word.ensures c.number.ensures) c.byte.ensures

@@ -1,12 +1,7 @@
-use Rattle.std.proofs.Common.{sym, ap}
-use Rattle.text.proofs.PlaceLaws.{chain, put_as}
-use Rattle.report.specs.StateLines.{neighbor_field, hardware_field}
+use Rattle.text.proofs.PlaceLaws.{chain}
+use Rattle.report.specs.StateLines.{neighbor_fields, address_field}
 use Rattle.report.proofs.listing.neighbor_fields.Goals as goal
 
-pub returns-in-Reachable : goal.returns-in-Reachable
-unfolding hardware_field
-returns-in-Reachable c = put_as (ap neighbor_field (sym c.in-Reachable.is)) (chain (chain c.word-after_word.ensures c.hardware-after_hardware.ensures) c.number_field.ensures)
-
-pub returns-in-Stale : goal.returns-in-Stale
-unfolding hardware_field
-returns-in-Stale c = put_as (ap neighbor_field (sym c.in-Stale.is)) (chain (chain c.word-after_word-in-Stale.ensures c.hardware-after_hardware-in-Stale.ensures) c.word-in-Stale.ensures)
+pub returns : goal.returns
+unfolding neighbor_fields address_field
+returns c = chain c.address.ensures c.state_fields.ensures

@@ -4,4 +4,4 @@ use Rattle.report.proofs.listing.number_field.Goals as goal
 
 pub returns : goal.returns
 unfolding number_field
-returns c = chain c.byte-after_space.ensures c.number.ensures
+returns c = chain c.byte.ensures c.number.ensures

@@ -4,4 +4,4 @@ use Rattle.report.proofs.listing.prefix_fields.Goals as goal
 
 pub returns : goal.returns
 unfolding prefix_fields address_field
-returns c = chain (chain (chain c.address-after_addr.ensures c.number_field-after_len.ensures) c.end_field-after_preferred.ensures) c.end_field.ensures
+returns c = chain (chain (chain c.address.ensures c.number_field.ensures) c.end_field.ensures) c.end_field-2.ensures

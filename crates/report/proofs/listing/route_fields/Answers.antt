@@ -4,4 +4,4 @@ use Rattle.report.proofs.listing.route_fields.Goals as goal
 
 pub returns : goal.returns
 unfolding route_fields address_field
-returns c = chain (chain c.address-after_via.ensures c.route_origin_field-after_origin.ensures) c.expiry_field.ensures
+returns c = chain (chain c.address.ensures c.route_origin_field.ensures) c.expiry_field.ensures

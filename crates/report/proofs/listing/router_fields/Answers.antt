@@ -4,4 +4,4 @@ use Rattle.report.proofs.listing.router_fields.Goals as goal
 
 pub returns : goal.returns
 unfolding router_fields address_field
-returns c = chain c.address-after_addr.ensures c.number_field.ensures
+returns c = chain c.address.ensures c.number_field.ensures

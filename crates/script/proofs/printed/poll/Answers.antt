@@ -1,11 +1,17 @@
-use Rattle.std.proofs.Common.{sym, ap}
+use Rattle.std.proofs.Common.{sym, ap, ◌∙◌, Ok}
+use Rattle.std.specs.Prelude.{Result}
 use Rattle.autoconf.specs.declared.PollAnswer.{PollAnswer}
 use Rattle.script.specs.PrintedRules.{poll_text}
 use Rattle.text.proofs.PlaceLaws.{put_as, put_none}
+use Rattle.wire.specs.declared.error.Refusal.{Refusal}
 use Rattle.script.proofs.printed.poll.Goals as goal
 
-pub returns-in-Quiet : goal.returns-in-Quiet
-returns-in-Quiet c = put_as (ap (λ (a : PollAnswer). poll_text c.args.time a c.args.message.now) (sym c.in-Quiet.is)) (put_none _ _)
+pub returns-in-Ok-Quiet : goal.returns-in-Ok-Quiet
+returns-in-Ok-Quiet c =
+    let e = c.in-Ok-Quiet.is ∙ ap Ok (rw c.in-Ok-Quiet.is at c.in-Ok-Quiet.field-0-is) in
+    put_as (ap (λ (a : Result PollAnswer Refusal). poll_text c.args.time a c.args.message.now) (sym e)) (put_none _ _)
 
-pub returns-in-NoRoom : goal.returns-in-NoRoom
-returns-in-NoRoom c = put_as (ap (λ (a : PollAnswer). poll_text c.args.time a c.args.message.now) (sym c.in-NoRoom.is)) (put_none _ _)
+pub returns-in-Ok-NoRoom : goal.returns-in-Ok-NoRoom
+returns-in-Ok-NoRoom c =
+    let e = c.in-Ok-NoRoom.is ∙ ap Ok (rw c.in-Ok-NoRoom.is at c.in-Ok-NoRoom.field-0-is) in
+    put_as (ap (λ (a : Result PollAnswer Refusal). poll_text c.args.time a c.args.message.now) (sym e)) (put_none _ _)

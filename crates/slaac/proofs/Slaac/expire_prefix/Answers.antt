@@ -1,20 +1,28 @@
-use Rattle.std.proofs.Common.{rules, length, ◌≡◌, refl, sym, ◌∙◌}
-use Rattle.slaac.proofs.LearnedLaws.{prefix_ends_lem, prefix_none}
-use Rattle.slaac.specs.LearnedRules.{no_prefix}
-use Rattle.table.proofs.Laws.{mapped, finding, find_next}
+use Rattle.std.proofs.Common.{rules, arith, length, ◌≡◌}
+use Rattle.slaac.proofs.LearnedLaws.{prefix_found, prefix_absent}
+use Rattle.slaac.proofs.SlotLaws.{placed}
+use Rattle.slaac.specs.LearnedRules.{is_prefix}
+use Rattle.table.proofs.Laws.{mapped}
 use Rattle.slaac.proofs.Slaac.expire_prefix.Goals as goal
 
-pub loop-i-init : goal.loop-i-init
-loop-i-init c =
+pub offset_bounds-self-at : goal.offset_bounds-self-at
+offset_bounds-self-at c =
+    let w = placed _ _ _ _ (c.position.ensures (is_prefix c.args.cidr) (λ x b q. search rules)) _ c.in-Some.is in
+    omega arith
+
+pub bounds-self-at : goal.bounds-self-at
+bounds-self-at c =
+    let w = placed _ _ _ _ (c.position.ensures (is_prefix c.args.cidr) (λ x b q. search rules)) _ c.in-Some.is in
+    omega arith
+
+pub returns-in-Some : goal.returns-in-Some
+returns-in-Some c =
     let s = c.args.self in
     let full : length s.prefixes ≡ 4 = search (rules, mapped) in
-    finding 4 _ _ _ s.prefixes s.prefix_count _ full c.count_of-count.ensures
+    prefix_found s _ c.args.now _ _ full c.count_of.ensures (c.position.ensures (is_prefix c.args.cidr) (λ x b q. search rules)) _ c.in-Some.is
 
-pub loop-i-preserved : goal.loop-i-preserved
-loop-i-preserved c = find_next no_prefix c.loop-i.invariant c.loop-i-test.true (sym c.same.ensures ∙ c.if-same.false)
-
-pub returns-then-same : goal.returns-then-same
-returns-then-same c = prefix_ends_lem _ _ _ _ _ c.loop-i.invariant _ c.loop-i-test.true (sym c.same.ensures ∙ c.if-same.true) refl
-
-pub returns : goal.returns
-returns c = prefix_none _ _ _ _ _ c.loop-i.invariant c.loop-i-test.false
+pub returns-in_default : goal.returns-in_default
+returns-in_default c =
+    let s = c.args.self in
+    let full : length s.prefixes ≡ 4 = search (rules, mapped) in
+    prefix_absent s _ c.args.now _ _ full c.count_of.ensures (c.position.ensures (is_prefix c.args.cidr) (λ x b q. search rules)) c.in_default.is

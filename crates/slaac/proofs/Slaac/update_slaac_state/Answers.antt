@@ -1,20 +1,14 @@
-use Rattle.std.proofs.Common.{not, sym, ap, ◌∙◌}
-use Rattle.slaac.proofs.ExpiryLaws.{prefixes_still, all_left}
-use Rattle.slaac.specs.LearnedRules.{no_prefix, no_router}
-use Rattle.table.proofs.Laws.{one_gone, one_kept, compacted}
+use Rattle.std.proofs.Common.{rules, length, ◌≡◌}
+use Rattle.slaac.proofs.ExpiryLaws.{all_left, stays}
+use Rattle.slaac.specs.ExpiryRules.{prefix_gone, router_gone}
+use Rattle.table.proofs.Laws.{mapped}
 use Rattle.slaac.proofs.Slaac.update_slaac_state.Goals as goal
-
-pub loop-i-preserved-then-is_valid : goal.loop-i-preserved-then-is_valid
-loop-i-preserved-then-is_valid c = (
-  one_kept no_prefix c.loop-i.invariant.0 c.loop-i-test.true (ap not (sym c.is_valid.ensures ∙ c.if-is_valid.true)),
-  prefixes_still c.args.self c.loop-i.slaac _ c.loop-i.invariant.1,
-)
-
-pub loop-i-preserved : goal.loop-i-preserved
-loop-i-preserved c =
-    (one_gone no_prefix c.loop-i.invariant.0 c.loop-i-test.true (ap not (sym c.is_valid.ensures ∙ c.if-is_valid.false)), c.loop-i.invariant.1)
 
 pub returns : goal.returns
 returns c =
-    all_left _ _ _ _ _ _ c.loop-i.invariant.1 c.loop-j.invariant.1 (compacted no_prefix c.loop-i.invariant.0 c.loop-i-test.false)
-    (compacted no_router c.loop-j.invariant.0 c.loop-j-test.false)
+    let s = c.args.self in
+    let full : length s.prefixes ≡ 4 = search (rules, mapped) in
+    let full' : length s.routers ≡ 2 = search (rules, mapped) in
+    all_left s _ _ full full' c.count_of-prefix_count.ensures c.count_of-router_count.ensures c.args.now _ _ _ _
+    (c.retain.ensures (prefix_gone c.args.now) (λ x b q. stays _ _ (search rules)))
+    (c.retain-2.ensures (router_gone c.args.now) (λ x b q. stays _ _ (search rules)))

@@ -1,14 +1,17 @@
-use Rattle.std.proofs.Common.{sym, ◌∙◌}
-use Rattle.iface.proofs.Addresses.{add_duplicate, add_end}
-use Rattle.iface.specs.AddressRules.{no_addr}
-use Rattle.table.proofs.Laws.{find_next}
+use Rattle.std.proofs.Common.{rules, refl, sym, ◌∙◌, arith}
+use Rattle.iface.proofs.Addresses.{add_duplicate, add_full, add_end}
 use Rattle.iface.proofs.addr.IfaceAddrs.add_ip_addr.Goals as goal
 
-pub returns-then-same : goal.returns-then-same
-returns-then-same c = add_duplicate _ _ _ _ c.check_prefix.ensures c.in_default.is _ _ c.loop-i.invariant c.loop-i-test.true (sym c.same.ensures ∙ c.if-same.true)
+pub returns-then-is_some : goal.returns-then-is_some
+returns-then-is_some c =
+    add_duplicate c.args.self _ c.args.cidr _ c.check_prefix.ensures c.in_default.is _ (search rules) refl _ c.place_of.ensures (sym c.is_some.ensures ∙ c.if-is_some.true)
 
-pub loop-i-preserved : goal.loop-i-preserved
-loop-i-preserved c = find_next no_addr c.loop-i.invariant c.loop-i-test.true (sym c.same.ensures ∙ c.if-same.false)
+pub returns-then-count-eq-IFACE_ADDR_COUNT : goal.returns-then-count-eq-IFACE_ADDR_COUNT
+returns-then-count-eq-IFACE_ADDR_COUNT c =
+    add_full c.args.self _ c.args.cidr _ c.check_prefix.ensures c.in_default.is _ (search rules) c.count_of-count.ensures _ c.place_of.ensures (sym c.is_some.ensures ∙ c.if-is_some.false)
+    c.if-count-eq-IFACE_ADDR_COUNT.true
 
-pub returns-then-count-lt-IFACE_ADDR_COUNT : goal.returns-then-count-lt-IFACE_ADDR_COUNT
-returns-then-count-lt-IFACE_ADDR_COUNT c = add_end _ _ _ _ c.check_prefix.ensures c.in_default.is _ _ c.loop-i.invariant _ c.manual-new.ensures c.loop-i-test.false c.if-count-lt-IFACE_ADDR_COUNT.true
+pub returns : goal.returns
+returns c =
+    add_end c.args.self _ c.args.cidr _ c.check_prefix.ensures c.in_default.is _ (search rules) c.count_of-count.ensures _ c.place_of.ensures _ c.manual.ensures
+    (sym c.is_some.ensures ∙ c.if-is_some.false) (omega (arith, c.count_of-count.ensures, c.if-count-eq-IFACE_ADDR_COUNT.false))

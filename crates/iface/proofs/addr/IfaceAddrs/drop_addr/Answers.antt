@@ -1,20 +1,34 @@
-use Rattle.std.proofs.Common.{sym, ◌∙◌}
-use Rattle.iface.proofs.Addresses.{drop_out, drop_stays, drop_none}
-use Rattle.iface.specs.AddressRules.{no_addr}
-use Rattle.table.proofs.Laws.{find_next, move_on, moved}
+use Rattle.std.proofs.Common.{rules, sym, ◌∙◌, ◌<◌, arith}
+use Rattle.iface.proofs.Addresses.{drop_at, drop_out, drop_stays, drop_none}
 use Rattle.iface.proofs.addr.IfaceAddrs.drop_addr.Goals as goal
 
-pub loop-next-preserved : goal.loop-next-preserved
-loop-next-preserved c = move_on no_addr c.loop-next.invariant c.loop-next-test.true
+pub offset_bounds-self-at : goal.offset_bounds-self-at
+offset_bounds-self-at c =
+    let l : c.in-Some.at < c.count_of-count.result = drop_at c.args.self c.args.cidr _ (search rules) c.count_of-count.ensures _ (sym c.place_of.ensures ∙ c.in-Some.is) in
+    search rules
+
+pub bounds-self-at : goal.bounds-self-at
+bounds-self-at c =
+    let l : c.in-Some.at < c.count_of-count.result = drop_at c.args.self c.args.cidr _ (search rules) c.count_of-count.ensures _ (sym c.place_of.ensures ∙ c.in-Some.is) in
+    search rules
+
+pub remove-requires : goal.remove-requires
+remove-requires c =
+    let l : c.in-Some.at < c.count_of-count.result = drop_at c.args.self c.args.cidr _ (search rules) c.count_of-count.ensures _ (sym c.place_of.ensures ∙ c.in-Some.is) in
+    search rules
+
+pub overflow_sub-addrs : goal.overflow_sub-addrs
+overflow_sub-addrs c =
+    let l : c.in-Some.at < c.count_of-count.result = drop_at c.args.self c.args.cidr _ (search rules) c.count_of-count.ensures _ (sym c.place_of.ensures ∙ c.in-Some.is) in
+    omega arith
 
 pub returns-then-is_slaac : goal.returns-then-is_slaac
-returns-then-is_slaac c = drop_out _ _ _ _ c.loop-i.invariant _ _ c.loop-i-test.true (sym c.same.ensures ∙ c.if-same.true) (sym c.is_slaac.ensures ∙ c.if-is_slaac.true) (moved no_addr c.loop-next.invariant c.loop-next-test.false)
+returns-then-is_slaac c =
+    drop_out c.args.self c.args.cidr _ (search rules) c.count_of-count.ensures _ (sym c.place_of.ensures ∙ c.in-Some.is) _ (sym c.is_slaac.ensures ∙ c.if-is_slaac.true) c.remove.ensures
 
-pub returns-then-same : goal.returns-then-same
-returns-then-same c = drop_stays _ _ _ _ c.loop-i.invariant c.loop-i-test.true (sym c.same.ensures ∙ c.if-same.true) (sym c.is_slaac.ensures ∙ c.if-is_slaac.false)
+pub returns-else-is_slaac : goal.returns-else-is_slaac
+returns-else-is_slaac c =
+    drop_stays c.args.self c.args.cidr _ (search rules) c.count_of-count.ensures _ (sym c.place_of.ensures ∙ c.in-Some.is) (sym c.is_slaac.ensures ∙ c.if-is_slaac.false)
 
-pub loop-i-preserved : goal.loop-i-preserved
-loop-i-preserved c = find_next no_addr c.loop-i.invariant c.loop-i-test.true (sym c.same.ensures ∙ c.if-same.false)
-
-pub returns : goal.returns
-returns c = drop_none _ _ _ _ c.loop-i.invariant c.loop-i-test.false
+pub returns-in_default : goal.returns-in_default
+returns-in_default c = drop_none c.args.self c.args.cidr _ (search rules) c.count_of-count.ensures (sym c.place_of.ensures ∙ c.in_default.is)

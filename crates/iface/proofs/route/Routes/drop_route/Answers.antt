@@ -1,17 +1,19 @@
-use Rattle.std.proofs.Common.{sym, ◌∙◌}
-use Rattle.iface.proofs.Routes.{drop_out, drop_none}
-use Rattle.iface.specs.RouteRules.{no_route}
-use Rattle.table.proofs.Laws.{find_next, move_on, moved}
+use Rattle.std.proofs.Common.{rules, sym, ◌∙◌, ◌<◌, arith}
+use Rattle.iface.proofs.Routes.{drop_at, drop_out, drop_none}
 use Rattle.iface.proofs.route.Routes.drop_route.Goals as goal
 
-pub loop-next-preserved : goal.loop-next-preserved
-loop-next-preserved c = move_on no_route c.loop-next.invariant c.loop-next-test.true
+pub remove-requires : goal.remove-requires
+remove-requires c =
+    let l : c.in-Some.at < c.count_of-count.result = drop_at c.args.self c.args.iface c.args.via_router _ (search rules) c.count_of-count.ensures _ (sym c.place_installed.ensures ∙ c.in-Some.is) in
+    search rules
 
-pub returns-then-installed : goal.returns-then-installed
-returns-then-installed c = drop_out _ _ _ _ _ c.loop-i.invariant _ _ c.loop-i-test.true (sym c.installed.ensures ∙ c.if-installed.true) (moved no_route c.loop-next.invariant c.loop-next-test.false)
+pub overflow_sub-routes : goal.overflow_sub-routes
+overflow_sub-routes c =
+    let l : c.in-Some.at < c.count_of-count.result = drop_at c.args.self c.args.iface c.args.via_router _ (search rules) c.count_of-count.ensures _ (sym c.place_installed.ensures ∙ c.in-Some.is) in
+    omega arith
 
-pub loop-i-preserved : goal.loop-i-preserved
-loop-i-preserved c = find_next no_route c.loop-i.invariant c.loop-i-test.true (sym c.installed.ensures ∙ c.if-installed.false)
+pub returns-in-Some : goal.returns-in-Some
+returns-in-Some c = drop_out c.args.self c.args.iface c.args.via_router _ (search rules) c.count_of-count.ensures _ (sym c.place_installed.ensures ∙ c.in-Some.is) _ c.remove.ensures
 
-pub returns : goal.returns
-returns c = drop_none _ _ _ _ _ c.loop-i.invariant c.loop-i-test.false
+pub returns-in_default : goal.returns-in_default
+returns-in_default c = drop_none c.args.self c.args.iface c.args.via_router _ (search rules) c.count_of-count.ensures (sym c.place_installed.ensures ∙ c.in_default.is)

@@ -1,16 +1,23 @@
-use Rattle.std.proofs.Common.{refl}
+use Rattle.std.proofs.Common.{refl, ap, Some, None, ◌∙◌}
 use Rattle.script.proofs.StepLaws.{still, of_address}
-use Rattle.script.specs.declared.reading.Said.TheVariants.{Bad, Mac, Next}
+use Rattle.script.specs.declared.reading.Said.TheVariants.{Mac, Next}
+use Rattle.script.specs.declared.reading.Said.{Said}
 use Rattle.script.proofs.card.Card.apply.Goals as goal
 
-pub returns-in-Bad : goal.returns-in-Bad
-returns-in-Bad c = still c.args.self c.args.said c.args.message.now Bad _ _ c.in-Bad.is refl
+pub returns-in-None : goal.returns-in-None
+returns-in-None c = still c.args.self c.args.said c.args.message.now None _ _ c.in-None.is refl
 
-pub returns-in-Mac : goal.returns-in-Mac
-returns-in-Mac c = still c.args.self c.args.said c.args.message.now (Mac _) _ _ c.in-Mac.is refl
+pub returns-in-Some-Mac : goal.returns-in-Some-Mac
+returns-in-Some-Mac c =
+    still c.args.self c.args.said c.args.message.now (Some (Mac _)) _ _
+    (c.in-Some-Mac.is ∙ ap (λ (s : Said). Some s) (rw c.in-Some-Mac.is at c.in-Some-Mac.field-0-is)) refl
 
-pub returns-in-Next : goal.returns-in-Next
-returns-in-Next c = still c.args.self c.args.said c.args.message.now (Next _) _ _ c.in-Next.is refl
+pub returns-in-Some-Next : goal.returns-in-Some-Next
+returns-in-Some-Next c =
+    still c.args.self c.args.said c.args.message.now (Some (Next _)) _ _
+    (c.in-Some-Next.is ∙ ap (λ (s : Said). Some s) (rw c.in-Some-Next.is at c.in-Some-Next.field-0-is)) refl
 
-pub returns-in-Static : goal.returns-in-Static
-returns-in-Static c = of_address c.args.self c.args.said c.args.message.now _ _ _ c.in-Static.is c.add_address.ensures
+pub returns-in-Some-Static : goal.returns-in-Some-Static
+returns-in-Some-Static c =
+    of_address c.args.self c.args.said c.args.message.now _ _ _
+    (c.in-Some-Static.is ∙ ap (λ (s : Said). Some s) (rw c.in-Some-Static.is at c.in-Some-Static.field-0-is)) c.add_address.ensures

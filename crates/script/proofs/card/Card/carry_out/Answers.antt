@@ -10,7 +10,7 @@ pub returns-in-Down : goal.returns-in-Down
 returns-in-Down c = quiet c.args.self c.args.time c.args.event c.args.message.now Down _ _ c.in-Down.is refl refl
 
 pub returns-in-Remove : goal.returns-in-Remove
-returns-in-Remove c = at_remove c.args.self c.args.time c.args.event c.args.message.now _ c.in-Remove.is c.remove.ensures c.with_cache-in-Remove.ensures
+returns-in-Remove c = at_remove c.args.self c.args.time c.args.event c.args.message.now _ c.in-Remove.is c.remove.ensures
 
 pub returns-in-Off : goal.returns-in-Off
 returns-in-Off c = quiet c.args.self c.args.time c.args.event c.args.message.now Off _ _ c.in-Off.is c.off.ensures refl

@@ -3,4 +3,4 @@ use Rattle.script.proofs.CardLaws.{poll_done}
 use Rattle.script.proofs.card.Card.poll.Goals as goal
 
 pub returns : goal.returns
-returns c = poll_done c.args.self c.args.time c.new.result c.poll_at-polled_at.result _ c.new.ensures c.poll_at-polled_at.ensures (search rules) c.poll-next.ensures
+returns c = poll_done c.args.self c.args.time c.new.result c.poll_at.result _ c.new.ensures c.poll_at.ensures (search rules) c.poll.ensures

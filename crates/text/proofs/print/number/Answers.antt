@@ -1,9 +1,0 @@
-use Rattle.std.proofs.Common.{arith, ◌∙◌}
-use Rattle.text.proofs.DecimalLaws.{spelled, few}
-use Rattle.text.proofs.PlaceLaws.{put_as}
-use Rattle.text.specs.Decimal.{decimal}
-use Rattle.text.proofs.print.number.Goals as goal
-
-pub returns : goal.returns
-unfolding decimal
-returns c = put_as (c.decimal-len.ensures.digits ∙ spelled 20 c.decimal-len.result c.args.value c.decimal-len.ensures.len (few c.args.value c.decimal-len.result c.decimal-len.ensures.len (omega arith))) c.word.ensures

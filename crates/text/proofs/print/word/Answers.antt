@@ -1,9 +1,0 @@
-use Rattle.std.proofs.Common.{arith}
-use Rattle.text.proofs.PlaceLaws.{put_none, one_more}
-use Rattle.text.proofs.print.word.Goals as goal
-
-pub loop-i-init : goal.loop-i-init
-loop-i-init c = (omega arith, put_none c.args.out.now c.args.at)
-
-pub loop-i-preserved : goal.loop-i-preserved
-loop-i-preserved c = (omega arith, one_more c.args.bytes.now c.loop-i.i c.loop-i-test.true c.loop-i.invariant.1 c.byte-next.ensures)
