@@ -62,7 +62,7 @@ fn sync_prefix(
 }
 
 // A valid router is a default route, and the route of an expired one goes. The application's route by the same router does not stand in
-// its way.
+// its way. Beside `sync_prefix`: other fields are stored, and every router has a route.
 fn sync_router(mut routes: Routes, router: Router, iface: u8, now: Instant) -> Routes
     ensures { result ≡ sync_router iface now routes router }
 {

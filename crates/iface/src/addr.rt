@@ -54,7 +54,7 @@ pub struct Added {
     pub outcome: Result<(), Refusal>,
 }
 
-// The table without SLAAC's addresses, and whether there were any.
+// The table without SLAAC's addresses, which comes back either way, and whether there were any.
 #[derive(Clone, Copy)]
 pub struct Cleared {
     pub addrs: IfaceAddrs,

@@ -73,7 +73,7 @@ impl Route {
         }
     }
 
-    // Whether it is that route: when and by whom it was made does not count.
+    // Whether it is that route: when and by whom it was made does not count, so it is no derived comparison.
     fn same_route(&self, iface: u8, cidr: Ipv6Cidr, via_router: Ipv6Addr) -> bool
         ensures { result ≡ is_route iface cidr via_router self.now }
     {

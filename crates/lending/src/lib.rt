@@ -15,7 +15,7 @@ use slaac::Slaac;
 use time::{Clock, Instant};
 use wire::ethernet::HardwareAddress;
 
-// Whether a time has come, and the clock afterwards.
+// Whether a time has come, and the clock afterwards, which comes back either way.
 #[derive(Clone, Copy)]
 pub struct Asked {
     pub yes: bool,

@@ -284,6 +284,7 @@ pub fn write_source_link_layer_addr(
     )
 }
 
+// Beside the source's: each is one call, under its type's own name.
 pub fn write_target_link_layer_addr(
     msg: &mut [u8],
     at: usize,

@@ -139,6 +139,7 @@ pub fn addresses(out: &mut Text, addrs: IfaceAddrs)
     section(out, b"addresses ", &addrs.slots, addrs.len, addr_fields);
 }
 
+// Beside `origin_field`: the Rust has a type of origin for each.
 fn route_origin_field(out: &mut Text, origin: RouteOrigin)
     ensures { Adds out.old (route_origin_field origin) out.new }
 {

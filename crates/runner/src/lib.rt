@@ -201,6 +201,7 @@ fn run_lines<I: Read, W: Write, R: Read>(
 {
     let mut run = begun();
     let mut reader = Reader { start: 0, end: 0 };
+    // No `for`: it ends by what a line says.
     loop {
         let Ok(line) = next_line(input, buf, reader) else {
             return finish(run, sink, target, Err(RunError::NotRead), out);

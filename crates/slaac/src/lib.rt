@@ -89,7 +89,7 @@ pub struct Changed {
     pub outcome: Result<(), Refusal>,
 }
 
-// Whether a solicitation goes out, and what it leaves.
+// Whether a solicitation goes out, and what it leaves either way.
 #[derive(Clone, Copy)]
 pub struct Solicitation {
     pub due: bool,

@@ -109,6 +109,7 @@ fn line_from<R: Read>(input: &mut R, buf: &mut [u8], first: Reader) -> Result<Li
 {
     let mut reader = first;
     let mut ended = false;
+    // No `for`: it ends by what a read gives.
     loop {
         if let Some(line) = take_line(buf, reader, ended) {
             return Ok(line);

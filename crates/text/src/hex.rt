@@ -40,6 +40,7 @@ pub(crate) fn unhex(digits: &[u8], out: &mut [u8]) -> Option<usize>
     if !are_bytes(pairs) {
         return None;
     }
+    // By index: each byte goes to its own place of out.
     for (i, pair) in pairs.iter().enumerate() {
         out[i] = byte(pair)?;
     }
