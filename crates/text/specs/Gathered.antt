@@ -14,3 +14,7 @@ Adds t bs t' = Put t.buf.now t.at bs t'.at t'.buf.now
 -- nothing is gathered any more; the buffer holds what it held
 abbrev pub IsCleared : Text → Text → Type 0
 IsCleared t t' = (t'.at ≡ 0) × (t'.buf.now ≡ t.buf.now)
+
+-- it is gathered in the same lent buffer still
+abbrev pub IsSameBuffer : Text → Text → Type 0
+IsSameBuffer t t' = t'.buf.ghost_name ≡ t.buf.ghost_name

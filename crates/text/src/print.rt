@@ -1,6 +1,6 @@
 // Text that is gathered in a buffer. What there is no room for is cut.
 ghost use Rattle.std.specs.Prelude.{◌≡◌, ◌∷◌, []};
-ghost use Rattle.text.specs.Gathered.{Adds, IsCleared, gathered};
+ghost use Rattle.text.specs.Gathered.{Adds, IsCleared, IsSameBuffer, gathered};
 ghost use Rattle.text.specs.Hex.{hexed};
 ghost use Rattle.text.specs.Decimal.{decimal};
 ghost use Rattle.wire.specs.Rfc4291.{address_bytes};
@@ -27,13 +27,15 @@ impl Text<'_> {
 
     // Nothing is gathered any more; the buffer holds what it held.
     pub fn clear(&mut self)
-        ensures { IsCleared self.old self.new }
+        ensures cleared { IsCleared self.old self.new }
+        ensures same_buffer { IsSameBuffer self.old self.new }
     {
         self.at = 0;
     }
 
     pub fn byte(&mut self, value: u8)
-        ensures { Adds self.old (value ∷ []) self.new }
+        ensures adds { Adds self.old (value ∷ []) self.new }
+        ensures same_buffer { IsSameBuffer self.old self.new }
     {
         if self.at < self.buf.len() {
             self.buf[self.at] = value;
@@ -42,7 +44,8 @@ impl Text<'_> {
     }
 
     pub fn word(&mut self, bytes: &[u8])
-        ensures { Adds self.old bytes.now self.new }
+        ensures adds { Adds self.old bytes.now self.new }
+        ensures same_buffer { IsSameBuffer self.old self.new }
     {
         for value in bytes {
             self.byte(*value);
@@ -51,7 +54,8 @@ impl Text<'_> {
 
     // Bytes in hexadecimal.
     pub fn hexes(&mut self, bytes: &[u8])
-        ensures { Adds self.old (hexed bytes.now) self.new }
+        ensures adds { Adds self.old (hexed bytes.now) self.new }
+        ensures same_buffer { IsSameBuffer self.old self.new }
     {
         for value in bytes {
             self.byte(high(*value));
@@ -61,7 +65,8 @@ impl Text<'_> {
 
     // A number in decimal, with no 0 in front.
     pub fn number(&mut self, value: u64)
-        ensures { Adds self.old (decimal value) self.new }
+        ensures adds { Adds self.old (decimal value) self.new }
+        ensures same_buffer { IsSameBuffer self.old self.new }
     {
         let mut digits = [0u8; 20];
         let len = io::decimal(value, &mut digits);
@@ -69,13 +74,15 @@ impl Text<'_> {
     }
 
     pub fn address(&mut self, addr: Ipv6Addr)
-        ensures { Adds self.old (hexed (address_bytes addr)) self.new }
+        ensures adds { Adds self.old (hexed (address_bytes addr)) self.new }
+        ensures same_buffer { IsSameBuffer self.old self.new }
     {
         self.hexes(&addr.octets());
     }
 
     pub fn hardware(&mut self, addr: HardwareAddress)
-        ensures { Adds self.old (hexed (hardware_bytes addr)) self.new }
+        ensures adds { Adds self.old (hexed (hardware_bytes addr)) self.new }
+        ensures same_buffer { IsSameBuffer self.old self.new }
     {
         self.hexes(&addr.octets());
     }
