@@ -4,7 +4,7 @@
 use Rattle.std.specs.Prelude.{ℕ, ◌+◌, ◌*◌, List, [], ◌∷◌, ◌++◌, length}
 use Rattle.std.specs.Borrow.{MutBor}
 use Rattle.text.specs.Decimal.{decimal}
-use Rattle.text.specs.Gathered.{Adds}
+use Rattle.text.specs.Gathered.{Adds, IsSameBuffer}
 use Rattle.text.specs.declared.print.Text.{Text}
 use Rattle.text.specs.Hex.{hexed}
 use Rattle.time.specs.declared.Expiry.{Expiry}
@@ -73,6 +73,10 @@ stale_word = 32 ∷ 115 ∷ 116 ∷ 97 ∷ 108 ∷ 101 ∷ 32 ∷ []
 -- what a function leaves that puts these fields of an entry behind what is gathered
 abbrev pub PutsFields : {A : Type 0} → (MutBor Text → A → MutBor Text → Type 0) → (A → List ℕ) → Type 0
 PutsFields {A} Leaves fields = (t : MutBor Text) (e : A) (t' : MutBor Text) → Leaves t e t' → Adds t.now (fields e) t'.now
+
+-- what a function leaves that keeps the buffer of the text
+abbrev pub KeepsBuffer : {A : Type 0} → (MutBor Text → A → MutBor Text → Type 0) → Type 0
+KeepsBuffer {A} Leaves = (t : MutBor Text) (e : A) (t' : MutBor Text) → Leaves t e t' → IsSameBuffer t.now t'.now
 
 -- the line of an entry with these fields
 abbrev pub ended : {A : Type 0} → (A → List ℕ) → A → List ℕ

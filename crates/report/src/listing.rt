@@ -1,12 +1,12 @@
 // The state, listed: a line with its count for each table, and a line for each entry.
 ghost use Rattle.std.specs.Prelude.{ℕ, List, take};
-ghost use Rattle.text.specs.Gathered.{Adds};
+ghost use Rattle.text.specs.Gathered.{Adds, IsSameBuffer};
 ghost use Rattle.slaac.specs.LearnedRules.{prefixes_of, routers_of};
 ghost use Rattle.iface.specs.AddressRules.{addrs_of};
 ghost use Rattle.iface.specs.RouteRules.{routes_of};
 ghost use Rattle.neighbor.specs.CacheCalls.{entries};
 ghost use Rattle.report.specs.AnswerLines.{Prints};
-ghost use Rattle.report.specs.StateLines.{heading_line, number_field, end_field, PutsFields, ended, section, prefix_fields, router_fields, origin_field, preferred_field, addr_fields, route_origin_field, expiry_field, route_fields, neighbor_field, neighbor_fields, prefixes_text, routers_text, addresses_text, routes_text, neighbors_text, section_most};
+ghost use Rattle.report.specs.StateLines.{heading_line, number_field, end_field, PutsFields, KeepsBuffer, ended, section, prefix_fields, router_fields, origin_field, preferred_field, addr_fields, route_origin_field, expiry_field, route_fields, neighbor_field, neighbor_fields, prefixes_text, routers_text, addresses_text, routes_text, neighbors_text, section_most};
 
 use iface::addr::{AddrOrigin, IfaceAddr, IfaceAddrs, Preferred};
 use iface::route::{Route, RouteOrigin, Routes};
@@ -18,7 +18,8 @@ use time::Expiry;
 
 // A table's name and its count.
 fn heading(out: &mut Text, name: &[u8], count: usize)
-    ensures { Adds out.old (heading_line name.now count) out.new }
+    ensures adds { Adds out.old (heading_line name.now count) out.new }
+    ensures same_buffer { IsSameBuffer out.old out.new }
 {
     out.word(name);
     out.number(count as u64);
@@ -34,7 +35,8 @@ fn section<T: Copy, F: Fn(&mut Text, T)>(
     fields: F,
 )
     requires { F.IsAlwaysCallable fields }
-    ensures { (text : T → List ℕ) → PutsFields (λ t e t'. F.post fields t e tt t') text → Adds out.old (section name.now (ended text) (take len slots.now)) out.new }
+    ensures adds { (text : T → List ℕ) → PutsFields (λ t e t'. F.post fields t e tt t') text → Adds out.old (section name.now (ended text) (take len slots.now)) out.new }
+    ensures same_buffer { KeepsBuffer (λ t e t'. F.post fields t e tt t') → IsSameBuffer out.old out.new }
 {
     let count = count_of(len, slots.len());
     heading(out, name, count);
@@ -46,7 +48,8 @@ fn section<T: Copy, F: Fn(&mut Text, T)>(
 
 // A number as a further field.
 pub fn number_field(out: &mut Text, value: u64)
-    ensures { Adds out.old (number_field value) out.new }
+    ensures adds { Adds out.old (number_field value) out.new }
+    ensures same_buffer { IsSameBuffer out.old out.new }
 {
     out.byte(b' ');
     out.number(value);
@@ -54,7 +57,8 @@ pub fn number_field(out: &mut Text, value: u64)
 
 // When something ends, as a further field.
 fn end_field(out: &mut Text, end: Expiry)
-    ensures { Adds out.old (end_field end) out.new }
+    ensures adds { Adds out.old (end_field end) out.new }
+    ensures same_buffer { IsSameBuffer out.old out.new }
 {
     match end {
         Expiry::At(time) => number_field(out, time.0),
@@ -64,7 +68,8 @@ fn end_field(out: &mut Text, end: Expiry)
 
 // Prefix, length, preferred, valid.
 pub fn prefix_fields(out: &mut Text, prefix: Prefix)
-    ensures { Adds out.old (prefix_fields prefix) out.new }
+    ensures adds { Adds out.old (prefix_fields prefix) out.new }
+    ensures same_buffer { IsSameBuffer out.old out.new }
 {
     out.address(prefix.cidr.address);
     number_field(out, prefix.cidr.prefix_len as u64);
@@ -73,7 +78,8 @@ pub fn prefix_fields(out: &mut Text, prefix: Prefix)
 }
 
 pub fn prefixes(out: &mut Text, slaac: Slaac)
-    ensures { Prints (prefixes_text (prefixes_of slaac)) (section_most 4) out.old out.new }
+    ensures prints { Prints (prefixes_text (prefixes_of slaac)) (section_most 4) out.old out.new }
+    ensures same_buffer { IsSameBuffer out.old out.new }
 {
     section(
         out,
@@ -86,14 +92,16 @@ pub fn prefixes(out: &mut Text, slaac: Slaac)
 
 // Router, expiry.
 pub fn router_fields(out: &mut Text, router: Router)
-    ensures { Adds out.old (router_fields router) out.new }
+    ensures adds { Adds out.old (router_fields router) out.new }
+    ensures same_buffer { IsSameBuffer out.old out.new }
 {
     out.address(router.addr);
     number_field(out, router.valid_until.0);
 }
 
 pub fn routers(out: &mut Text, slaac: Slaac)
-    ensures { Prints (routers_text (routers_of slaac)) (section_most 2) out.old out.new }
+    ensures prints { Prints (routers_text (routers_of slaac)) (section_most 2) out.old out.new }
+    ensures same_buffer { IsSameBuffer out.old out.new }
 {
     section(
         out,
@@ -105,7 +113,8 @@ pub fn routers(out: &mut Text, slaac: Slaac)
 }
 
 fn origin_field(out: &mut Text, origin: AddrOrigin)
-    ensures { Adds out.old (origin_field origin) out.new }
+    ensures adds { Adds out.old (origin_field origin) out.new }
+    ensures same_buffer { IsSameBuffer out.old out.new }
 {
     match origin {
         AddrOrigin::Manual => out.word(b" static"),
@@ -114,7 +123,8 @@ fn origin_field(out: &mut Text, origin: AddrOrigin)
 }
 
 fn preferred_field(out: &mut Text, preferred: Preferred)
-    ensures { Adds out.old (preferred_field preferred) out.new }
+    ensures adds { Adds out.old (preferred_field preferred) out.new }
+    ensures same_buffer { IsSameBuffer out.old out.new }
 {
     match preferred {
         Preferred::Always => out.word(b" -"),
@@ -125,7 +135,8 @@ fn preferred_field(out: &mut Text, preferred: Preferred)
 
 // Address, length, origin, preferred.
 pub fn addr_fields(out: &mut Text, entry: IfaceAddr)
-    ensures { Adds out.old (addr_fields entry) out.new }
+    ensures adds { Adds out.old (addr_fields entry) out.new }
+    ensures same_buffer { IsSameBuffer out.old out.new }
 {
     out.address(entry.cidr.address);
     number_field(out, entry.cidr.prefix_len as u64);
@@ -134,14 +145,16 @@ pub fn addr_fields(out: &mut Text, entry: IfaceAddr)
 }
 
 pub fn addresses(out: &mut Text, addrs: IfaceAddrs)
-    ensures { Prints (addresses_text (addrs_of addrs)) (section_most 8) out.old out.new }
+    ensures prints { Prints (addresses_text (addrs_of addrs)) (section_most 8) out.old out.new }
+    ensures same_buffer { IsSameBuffer out.old out.new }
 {
     section(out, b"addresses ", &addrs.slots, addrs.len, addr_fields);
 }
 
 // Beside `origin_field`: the Rust has a type of origin for each.
 fn route_origin_field(out: &mut Text, origin: RouteOrigin)
-    ensures { Adds out.old (route_origin_field origin) out.new }
+    ensures adds { Adds out.old (route_origin_field origin) out.new }
+    ensures same_buffer { IsSameBuffer out.old out.new }
 {
     match origin {
         RouteOrigin::Manual => out.word(b" static"),
@@ -150,7 +163,8 @@ fn route_origin_field(out: &mut Text, origin: RouteOrigin)
 }
 
 fn expiry_field(out: &mut Text, expiry: Expiry)
-    ensures { Adds out.old (expiry_field expiry) out.new }
+    ensures adds { Adds out.old (expiry_field expiry) out.new }
+    ensures same_buffer { IsSameBuffer out.old out.new }
 {
     match expiry {
         Expiry::Forever => out.word(b" -"),
@@ -160,7 +174,8 @@ fn expiry_field(out: &mut Text, expiry: Expiry)
 
 // Via, origin, expiry.
 pub fn route_fields(out: &mut Text, route: Route)
-    ensures { Adds out.old (route_fields route) out.new }
+    ensures adds { Adds out.old (route_fields route) out.new }
+    ensures same_buffer { IsSameBuffer out.old out.new }
 {
     out.address(route.via_router);
     route_origin_field(out, route.origin);
@@ -168,14 +183,16 @@ pub fn route_fields(out: &mut Text, route: Route)
 }
 
 pub fn routes(out: &mut Text, table: Routes)
-    ensures { Prints (routes_text (routes_of table)) (section_most 8) out.old out.new }
+    ensures prints { Prints (routes_text (routes_of table)) (section_most 8) out.old out.new }
+    ensures same_buffer { IsSameBuffer out.old out.new }
 {
     section(out, b"routes ", &table.slots, table.len, route_fields);
 }
 
 // State, hardware address, expiry. An entry that was only started lists as incomplete.
 fn state_fields(out: &mut Text, state: State)
-    ensures { Adds out.old (neighbor_field state) out.new }
+    ensures adds { Adds out.old (neighbor_field state) out.new }
+    ensures same_buffer { IsSameBuffer out.old out.new }
 {
     match state {
         State::Started | State::Incomplete { .. } => out.word(b" incomplete - -"),
@@ -197,14 +214,16 @@ fn state_fields(out: &mut Text, state: State)
 
 // Neighbour, state, hardware address, expiry.
 fn neighbor_fields(out: &mut Text, entry: Entry)
-    ensures { Adds out.old (neighbor_fields entry) out.new }
+    ensures adds { Adds out.old (neighbor_fields entry) out.new }
+    ensures same_buffer { IsSameBuffer out.old out.new }
 {
     out.address(entry.addr);
     state_fields(out, entry.state);
 }
 
 pub fn neighbors(out: &mut Text, cache: NeighborCache)
-    ensures { Prints (neighbors_text (entries cache)) (section_most 16) out.old out.new }
+    ensures prints { Prints (neighbors_text (entries cache)) (section_most 16) out.old out.new }
+    ensures same_buffer { IsSameBuffer out.old out.new }
 {
     section(out, b"neighbors ", &cache.slots, cache.len, neighbor_fields);
 }

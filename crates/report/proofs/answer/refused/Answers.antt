@@ -2,6 +2,6 @@ use Rattle.text.proofs.PlaceLaws.{chain}
 use Rattle.report.specs.AnswerLines.{refused_line}
 use Rattle.report.proofs.answer.refused.Goals as goal
 
-pub returns : goal.returns
+pub returns-clause-adds : goal.returns-clause-adds
 unfolding refused_line
-returns c = chain (chain (chain c.number.ensures c.word.ensures) c.number-2.ensures) c.byte.ensures
+returns-clause-adds c = chain (chain (chain c.number.ensures.adds c.word.ensures.adds) c.number-2.ensures.adds) c.byte.ensures.adds

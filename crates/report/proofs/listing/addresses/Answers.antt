@@ -5,8 +5,11 @@ use Rattle.report.specs.StateLines.{addr_fields, addr_line, addresses_text}
 use Rattle.table.proofs.Laws.{mapped}
 use Rattle.report.proofs.listing.addresses.Goals as goal
 
-pub returns : goal.returns
+pub returns-clause-prints : goal.returns-clause-prints
 unfolding addresses_text addr_line
-returns c =
+returns-clause-prints c =
     let full : length c.args.addrs.slots ≡ 8 = search (rules, mapped) in
-    record { put = c.section.ensures addr_fields (λ t e t' p. p); short = addresses_short _ (few c.args.addrs.slots c.args.addrs.len 8 full) }
+    record { put = c.section.ensures.adds addr_fields (λ t e t' p. p.0); short = addresses_short _ (few c.args.addrs.slots c.args.addrs.len 8 full) }
+
+pub returns-clause-same_buffer : goal.returns-clause-same_buffer
+returns-clause-same_buffer c = c.section.ensures.same_buffer (λ t e t' p. p.1)

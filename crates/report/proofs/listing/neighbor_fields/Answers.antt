@@ -2,6 +2,6 @@ use Rattle.text.proofs.PlaceLaws.{chain}
 use Rattle.report.specs.StateLines.{neighbor_fields, address_field}
 use Rattle.report.proofs.listing.neighbor_fields.Goals as goal
 
-pub returns : goal.returns
+pub returns-clause-adds : goal.returns-clause-adds
 unfolding neighbor_fields address_field
-returns c = chain c.address.ensures c.state_fields.ensures
+returns-clause-adds c = chain c.address.ensures.adds c.state_fields.ensures.adds

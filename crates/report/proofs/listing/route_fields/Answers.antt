@@ -2,6 +2,6 @@ use Rattle.text.proofs.PlaceLaws.{chain}
 use Rattle.report.specs.StateLines.{route_fields, address_field}
 use Rattle.report.proofs.listing.route_fields.Goals as goal
 
-pub returns : goal.returns
+pub returns-clause-adds : goal.returns-clause-adds
 unfolding route_fields address_field
-returns c = chain (chain c.address.ensures c.route_origin_field.ensures) c.expiry_field.ensures
+returns-clause-adds c = chain (chain c.address.ensures.adds c.route_origin_field.ensures.adds) c.expiry_field.ensures.adds

@@ -5,8 +5,11 @@ use Rattle.report.specs.StateLines.{router_fields, router_line, routers_text}
 use Rattle.table.proofs.Laws.{mapped}
 use Rattle.report.proofs.listing.routers.Goals as goal
 
-pub returns : goal.returns
+pub returns-clause-prints : goal.returns-clause-prints
 unfolding routers_text router_line
-returns c =
+returns-clause-prints c =
     let full : length c.args.slaac.routers ≡ 2 = search (rules, mapped) in
-    record { put = c.section.ensures router_fields (λ t e t' p. p); short = routers_short _ (few c.args.slaac.routers c.args.slaac.router_count 2 full) }
+    record { put = c.section.ensures.adds router_fields (λ t e t' p. p.0); short = routers_short _ (few c.args.slaac.routers c.args.slaac.router_count 2 full) }
+
+pub returns-clause-same_buffer : goal.returns-clause-same_buffer
+returns-clause-same_buffer c = c.section.ensures.same_buffer (λ t e t' p. p.1)
