@@ -1,5 +1,6 @@
 // The state that the events act on: an interface with its tables, and the neighbours.
 ghost use Rattle.std.specs.Prelude.{◌≡◌, length};
+ghost use Rattle.text.specs.Gathered.{IsSameBuffer};
 ghost use Rattle.script.specs.CardRules.{new_card, CarriedTo, up_card, poll_card, ra_card, off_card, carry_out, message_for, Fits, Lists};
 ghost use Rattle.script.specs.StepRules.{added_card, Applied, apply_of, FitsSaid, message_in, Stepped, StepTo};
 
@@ -68,7 +69,8 @@ impl Card {
     }
 
     fn poll(self, time: u64, out: &mut Text) -> Card
-        ensures { CarriedTo (poll_card self time) out.old result out.new }
+        ensures carried { CarriedTo (poll_card self time) out.old result out.new }
+        ensures same_buffer { IsSameBuffer out.old out.new }
     {
         let mut message = [0u8; SOLICIT_LEN];
         let polled = autoconf::poll_at(
@@ -92,7 +94,8 @@ impl Card {
     }
 
     fn ra(self, time: u64, source: Ipv6Addr, message: &[u8], out: &mut Text) -> Card
-        ensures { CarriedTo (ra_card self time source message.now) out.old result out.new }
+        ensures carried { CarriedTo (ra_card self time source message.now) out.old result out.new }
+        ensures same_buffer { IsSameBuffer out.old out.new }
     {
         let heard = autoconf::process_advertisement(
             self.slaac,
@@ -134,7 +137,8 @@ impl Card {
     // An event at its time, with the message of an advertisement at the front of `message`.
     fn carry_out(self, time: u64, event: Event, message: &[u8], out: &mut Text) -> Card
         requires { Fits (length message.now) event }
-        ensures { CarriedTo (carry_out self time event (message_for event message.now)) out.old result out.new }
+        ensures carried { CarriedTo (carry_out self time event (message_for event message.now)) out.old result out.new }
+        ensures same_buffer { IsSameBuffer out.old out.new }
     {
         match event {
             Event::Up => self.link_up(),
@@ -184,7 +188,8 @@ impl Card {
     // What a line said.
     fn apply(self, said: Option<Said>, message: &[u8], out: &mut Text) -> After
         requires { FitsSaid (length message.now) said }
-        ensures { Stepped (apply_of self said (message_in said message.now)) out.old result out.new }
+        ensures stepped { Stepped (apply_of self said (message_in said message.now)) out.old result out.new }
+        ensures same_buffer { IsSameBuffer out.old out.new }
     {
         match said {
             None => After {
@@ -209,7 +214,8 @@ impl Card {
 
     // One line of the input.
     pub fn step(self, want: Want, line: &[u8], out: &mut Text) -> After
-        ensures { StepTo want self line.now out.old result out.new }
+        ensures step { StepTo want self line.now out.old result out.new }
+        ensures same_buffer { IsSameBuffer out.old out.new }
     {
         let mut message = [0u8; MESSAGE_ROOM];
         let said = read_line(want, line, &mut message);
@@ -218,7 +224,8 @@ impl Card {
 
     // The state, listed.
     pub fn list(self, out: &mut Text)
-        ensures { Lists self out.old out.new }
+        ensures lists { Lists self out.old out.new }
+        ensures same_buffer { IsSameBuffer out.old out.new }
     {
         listing::prefixes(out, self.slaac);
         listing::routers(out, self.slaac);

@@ -1,5 +1,6 @@
 // The events on the neighbours. Each answers the neighbours after it.
 ghost use Rattle.std.specs.Prelude.{◌≡◌};
+ghost use Rattle.text.specs.Gathered.{IsSameBuffer};
 ghost use Rattle.script.specs.CardRules.{CachedTo, start_cache, sweep_cache, fill_cache, remove_cache};
 
 use crate::printed;
@@ -13,7 +14,8 @@ use wire::ipv6::Ipv6Addr;
 pub const IFACE: u8 = 0;
 
 pub fn start(cache: NeighborCache, time: u64, addr: Ipv6Addr, out: &mut Text) -> NeighborCache
-    ensures { CachedTo (start_cache cache time addr) out.old result out.new }
+    ensures cached { CachedTo (start_cache cache time addr) out.old result out.new }
+    ensures same_buffer { IsSameBuffer out.old out.new }
 {
     let left = cache.start_resolution(IFACE, addr);
     printed::change(out, time, left.outcome);
@@ -21,7 +23,8 @@ pub fn start(cache: NeighborCache, time: u64, addr: Ipv6Addr, out: &mut Text) ->
 }
 
 pub fn sweep(cache: NeighborCache, time: u64, out: &mut Text) -> NeighborCache
-    ensures { CachedTo (sweep_cache cache time) out.old result out.new }
+    ensures cached { CachedTo (sweep_cache cache time) out.old result out.new }
+    ensures same_buffer { IsSameBuffer out.old out.new }
 {
     let left = sweep::sweep_at(cache, Clock::new(Instant(time)), IFACE);
     printed::sweep(out, time, left.outcome, left.events);
@@ -35,7 +38,8 @@ pub fn fill(
     hardware_addr: HardwareAddress,
     out: &mut Text,
 ) -> NeighborCache
-    ensures { CachedTo (fill_cache cache time addr hardware_addr) out.old result out.new }
+    ensures cached { CachedTo (fill_cache cache time addr hardware_addr) out.old result out.new }
+    ensures same_buffer { IsSameBuffer out.old out.new }
 {
     let left = cache.fill(IFACE, addr, hardware_addr, Instant(time));
     printed::change(out, time, left.outcome);

@@ -1,5 +1,5 @@
 // What the answer of a call prints: `refused` with a number, `off`, `solicit` with the message, the events of a sweep, or nothing.
-ghost use Rattle.text.specs.Gathered.{Adds};
+ghost use Rattle.text.specs.Gathered.{Adds, IsSameBuffer};
 ghost use Rattle.report.specs.AnswerLines.{Prints, event_most};
 ghost use Rattle.script.specs.PrintedRules.{poll_text, ra_text, change_text, sweep_text};
 
@@ -10,7 +10,8 @@ use text::print::Text;
 use wire::error::Refusal;
 
 pub fn poll(out: &mut Text, time: u64, answered: Result<PollAnswer, Refusal>, message: &[u8])
-    ensures { Adds out.old (poll_text time answered message.now) out.new }
+    ensures adds { Adds out.old (poll_text time answered message.now) out.new }
+    ensures same_buffer { IsSameBuffer out.old out.new }
 {
     match answered {
         Err(why) => answer::refused(out, time, why.number()),
@@ -23,7 +24,8 @@ pub fn poll(out: &mut Text, time: u64, answered: Result<PollAnswer, Refusal>, me
 }
 
 pub fn ra(out: &mut Text, time: u64, answered: Result<AdvertAnswer, Refusal>)
-    ensures { Adds out.old (ra_text time answered) out.new }
+    ensures adds { Adds out.old (ra_text time answered) out.new }
+    ensures same_buffer { IsSameBuffer out.old out.new }
 {
     match answered {
         Err(why) => answer::refused(out, time, why.number()),
@@ -33,7 +35,8 @@ pub fn ra(out: &mut Text, time: u64, answered: Result<AdvertAnswer, Refusal>)
 }
 
 pub fn change(out: &mut Text, time: u64, answered: Result<(), Refusal>)
-    ensures { Adds out.old (change_text time answered) out.new }
+    ensures adds { Adds out.old (change_text time answered) out.new }
+    ensures same_buffer { IsSameBuffer out.old out.new }
 {
     if let Err(why) = answered {
         answer::refused(out, time, why.number());
@@ -41,7 +44,8 @@ pub fn change(out: &mut Text, time: u64, answered: Result<(), Refusal>)
 }
 
 pub fn sweep(out: &mut Text, time: u64, answered: Result<(), Refusal>, events: Events)
-    ensures { Prints (sweep_text time answered events) event_most out.old out.new }
+    ensures prints { Prints (sweep_text time answered events) event_most out.old out.new }
+    ensures same_buffer { IsSameBuffer out.old out.new }
 {
     match answered {
         Err(why) => answer::refused(out, time, why.number()),

@@ -3,5 +3,5 @@ use Rattle.script.specs.PrintedRules.{ra_text}
 use Rattle.text.proofs.PlaceLaws.{put_as, put_none}
 use Rattle.script.proofs.printed.ra.Goals as goal
 
-pub returns-in-Ok-Done : goal.returns-in-Ok-Done
-returns-in-Ok-Done c = put_as (ap (ra_text c.args.time) (sym (c.in-Ok-Done.is ∙ ap Ok (rw c.in-Ok-Done.is at c.in-Ok-Done.field-0-is)))) (put_none _ _)
+pub returns-in-Ok-Done-clause-adds : goal.returns-in-Ok-Done-clause-adds
+returns-in-Ok-Done-clause-adds c = put_as (ap (ra_text c.args.time) (sym (c.in-Ok-Done.is ∙ ap Ok (rw c.in-Ok-Done.is at c.in-Ok-Done.field-0-is)))) (put_none _ _)

@@ -1,5 +1,5 @@
 use Rattle.script.proofs.CardLaws.{listed}
 use Rattle.script.proofs.card.Card.list.Goals as goal
 
-pub returns : goal.returns
-returns c = listed c.args.self c.prefixes.ensures c.routers.ensures c.addresses.ensures c.routes.ensures c.neighbors.ensures
+pub returns-clause-lists : goal.returns-clause-lists
+returns-clause-lists c = listed c.args.self c.prefixes.ensures.prints c.routers.ensures.prints c.addresses.ensures.prints c.routes.ensures.prints c.neighbors.ensures.prints
