@@ -3,6 +3,7 @@
 #![tactic(auto)]
 
 ghost use Rattle.std.specs.Prelude.{◌≡◌, ◌<◌, ◌≤◌, length};
+ghost use Rattle.text.specs.Gathered.{IsSameBuffer};
 ghost use Rattle.streams.specs.Writing.{is_written};
 ghost use Rattle.runner.specs.OutputRules.{failed, complete, end_of, end_text};
 ghost use Rattle.runner.specs.RunRules.{begun_run, Room, AddsWhole, FlushedTo, Handed, Turned, Ends, Finished, Gone, turned_at, ended_at, RunTo, RunOf, unwritten};
@@ -84,6 +85,7 @@ fn flush<W: Write, R: Read>(
     ensures flushed { FlushedTo sink.old out.old result sink.new out.new }
     ensures kind { is_written target.new ≡ is_written target.old }
     ensures handed { Handed W.contents target.old out.old.at out.old.buf.now result target.new }
+    ensures same_buffer { IsSameBuffer out.old out.new }
 {
     if out.at >= GATHERED {
         sink.emit(target, out.as_bytes())?;
@@ -115,6 +117,7 @@ fn turn<W: Write, R: Read>(
     ensures turned { Turned run sink.old line.now out.old result sink.new out.new }
     ensures kind { is_written target.new ≡ is_written target.old }
     ensures handed { Handed W.contents target.old (turned_at run out.old line.now) out.new.buf.now result target.new }
+    ensures same_buffer { IsSameBuffer out.old out.new }
 {
     let after = run.card.step(run.want, line, out);
     flush(sink, target, out)?;
@@ -140,7 +143,8 @@ fn end_of(line: Line, want: Want, number: u64) -> Result<(), RunError>
 // The end of the output.
 fn put_end(end: Result<(), RunError>, card: Card, out: &mut Text)
     requires { Room out.old }
-    ensures { AddsWhole (end_text end card) out.old out.new }
+    ensures adds { AddsWhole (end_text end card) out.old out.new }
+    ensures same_buffer { IsSameBuffer out.old out.new }
 {
     match end {
         Ok(()) => card.list(out),
@@ -182,6 +186,7 @@ fn finish<W: Write, R: Read>(
     ensures finished { Finished run sink.old end out.old result sink.new out.new }
     ensures kind { is_written target.new ≡ is_written target.old }
     ensures gone { Gone W.contents target.old (ended_at run out.old end) out.new.buf.now result target.new }
+    ensures same_buffer { IsSameBuffer out.old out.new }
 {
     put_end(end, run.card, out);
     last(sink, target, end, out)
@@ -198,6 +203,7 @@ fn run_lines<I: Read, W: Write, R: Read>(
     requires { (4096 < length buf.old) × (out.old.at ≡ 0) × (65536 ≤ length out.old.buf.now) }
     ensures run { RunTo W.contents target.old buf.old sink.old result sink.new buf.new target.new }
     ensures kind { is_written target.new ≡ is_written target.old }
+    ensures same_buffer { IsSameBuffer out.old out.new }
 {
     let mut run = begun();
     let mut reader = Reader { start: 0, end: 0 };

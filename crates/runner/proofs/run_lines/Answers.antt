@@ -4,7 +4,7 @@ use Rattle.runner.proofs.RunLaws.{starts_at, no_line, over_by, line_held, not_wr
 use Rattle.runner.proofs.run_lines.Goals as goal
 
 pub loop-line-init : goal.loop-line-init
-loop-line-init g c = (starts_at c.begun-run.ensures c.requires.1 c.requires.0 c.requires.2, refl)
+loop-line-init g c = (starts_at c.begun-run.ensures c.requires.1 c.requires.0 c.requires.2, refl, refl)
 
 pub returns-in_default-line-clause-run : goal.returns-in_default-line-clause-run
 returns-in_default-line-clause-run g c =
@@ -45,4 +45,5 @@ loop-line-preserved g c = (
   turned_on c.loop-line.invariant.0 _ _ _ c.in-Ok.ensures (ap Ok c.in-At.is) c.in_ok-run.ensures.turned c.in_ok-run.ensures.handed
       (sym c.is_failed.ensures ∙ c.if-is_failed.false),
   c.in_ok-run.ensures.kind ∙ c.loop-line.invariant.1,
+  c.in_ok-run.ensures.same_buffer ∙ c.loop-line.invariant.2,
 )
