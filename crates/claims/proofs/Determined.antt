@@ -1,17 +1,18 @@
 -- A promise that gives its answer by an equation has no second one. Assumes nothing.
-use Prim.Native.Nat.{ℕ}
+use Prim.Native.Nat.{ℕ, ◌+◌, ◌-◌, min}
+use lib.ListN.{length}
 use mathlib.Core.List.{List}
 use mathlib.Core.Path.{◌≡◌, ap, sym, ◌∙◌}
 use Rattle.claims.specs.Determined.{Determined, OneAnswerLeaving}
 use Rattle.script.specs.CardRules.{listed_text}
-use Rattle.script.specs.StepRules.{StepTo}
+use Rattle.script.specs.StepRules.{step_of, StepTo}
 use Rattle.script.specs.declared.card.After.{After}
 use Rattle.script.specs.declared.card.Card.{Card}
 use Rattle.script.specs.declared.reading.Want.{Want}
 use Rattle.table.specs.Table.{filled}
 use Rattle.text.specs.Addresses.{MessageRead}
 use Rattle.text.specs.Hex.{bytes_of}
-use Rattle.text.specs.Place.{Put}
+use Rattle.text.specs.Place.{Put, put as put_at}
 use Rattle.text.specs.declared.print.Text.{Text}
 use Rattle.std.specs.Prelude.{Option}
 
@@ -25,14 +26,18 @@ read field out r r' left left' h h' = (e, h.bytes ∙ ap (λ (x : Option ℕ). f
 put : (out : List ℕ) (at : ℕ) (text : List ℕ) → OneAnswerLeaving (Put out at text)
 put out at text r r' left left' h h' = (h.next ∙ sym h'.next, h.is ∙ sym h'.is)
 
-stepped : (want : Want) (card : Card) (line : List ℕ) (out : Text) (r r' : After) (left left' : Text) → StepTo want card line out r left
-    → StepTo want card line out r' left' → (r ≡ r') × (left.buf.now ≡ left'.buf.now) × (left.at ≡ left'.at)
-stepped want card line out r r' left left' h h' = (
+stepped : (want : Want) (card : Card) (line : List ℕ) (out out' : Text) → out.buf.now ≡ out'.buf.now → out.at ≡ out'.at
+    → (r r' : After) (left left' : Text) → StepTo want card line out r left → StepTo want card line out' r' left'
+    → (r ≡ r') × (left.buf.now ≡ left'.buf.now) × (left.at ≡ left'.at)
+stepped want card line out out' bytes place r r' left left' h h' = (
   ap (λ (x : Want). record { want = x; card = r.card }) (h.is.want ∙ sym h'.is.want)
       ∙ ap (λ (x : Card). record { want = r'.want; card = x }) (h.is.card ∙ sym h'.is.card),
-  h.is.put.is ∙ sym h'.is.put.is,
-  h.is.put.next ∙ sym h'.is.put.next,
+  h.is.put.is ∙ ((λ i. put_at (bytes i) (place i) text) ∙ sym h'.is.put.is),
+  h.is.put.next ∙ ((λ i. place i + min (length text) (length (bytes i) - place i)) ∙ sym h'.is.put.next),
 )
+  where
+    text : List ℕ
+    text = (step_of want card line).text
 
 pub determined : Determined
 determined =

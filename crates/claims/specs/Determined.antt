@@ -121,7 +121,8 @@ pub record Determined : Type 0 where
   pub parse_event : (line message : List ℕ) → OneAnswerLeaving (ParsedTo line message)
   pub listing : (text : List ℕ) (most : ℕ) (out : List ℕ) (at : ℕ) → OneAnswerLeaving (Printed text most out at)
   pub read_line : (message : List ℕ) (want : Want) (line : List ℕ) → OneAnswerLeaving (SaidTo message want line)
-  -- of a text that is lent, its bytes and its place: all that a program can read of it
-  pub step : (want : Want) (card : Card) (line : List ℕ) (out : Text) (r r' : After) (left left' : Text) → StepTo want card line out r left
-      → StepTo want card line out r' left' → (r ≡ r') × (left.buf.now ≡ left'.buf.now) × (left.at ≡ left'.at)
+  -- two texts of the same bytes and place are left with the same; that each keeps the buffer that it holds, a clause of `Card::step` says by itself
+  pub step : (want : Want) (card : Card) (line : List ℕ) (out out' : Text) → out.buf.now ≡ out'.buf.now → out.at ≡ out'.at
+      → (r r' : After) (left left' : Text) → StepTo want card line out r left → StepTo want card line out' r' left'
+      → (r ≡ r') × (left.buf.now ≡ left'.buf.now) × (left.at ≡ left'.at)
   pub list : (card : Card) (out : List ℕ) (at : ℕ) → OneAnswerLeaving (Listed card out at)
