@@ -105,7 +105,8 @@ pub record Claims : Type 1 where
   -- Each call of the library that can refuse does so exactly if a row of that table fails, with the first such row's number, and then everything is
   -- as it came.
   pub refusals : Refusals
-  -- No promise of a function that can be called has a second answer, nor leaves a second clock or buffer; but for what an operating system answers.
+  -- No promise of a function that can be called has a second answer, nor leaves a second clock or buffer; but for what an operating system answers,
+  -- and a search or filter by a closure that decides no test.
   pub determined : Determined
   -- What is written or printed reads back as it was, a prefix without the bits past its length, and nothing beside it changes.
   pub round_trips : RoundTrips

@@ -2,10 +2,11 @@
 -- answer satisfies it": that there is a first the function itself shows. A field for each promise that is a record, by the function that makes it; one
 -- that is an equation for the answer, and one for each thing lent, needs none. Exceptions are what an operating system answers: `next_line`, `emit`
 -- and `done` of streams, and `run` of runner (docs/PROMISES.md, "Exceptions"). Assumes nothing.
-use Rattle.std.specs.Prelude.{ℕ, ◌≡◌, Bool, List, Option}
+use Rattle.std.specs.Prelude.{ℕ, ◌≡◌, Bool, List, [], ◌∷◌, Option, Some, None, MatchOption, IfSome}
 use Rattle.std.specs.Borrow.{Bor}
 use Rattle.time.specs.declared.Instant.{Instant}
 use Rattle.time.specs.declared.Clock.{Clock}
+use Rattle.table.specs.Calls.{Decides, Finds, Keeps}
 use Rattle.wire.specs.declared.ethernet.HardwareAddress.{HardwareAddress}
 use Rattle.wire.specs.declared.ipv6.Ipv6Addr.{Ipv6Addr}
 use Rattle.wire.specs.declared.ipv6.Ipv6Cidr.{Ipv6Cidr}
@@ -32,7 +33,7 @@ use Rattle.autoconf.specs.OffRules.{TurnedOffTo}
 use Rattle.autoconf.specs.declared.Polled.{Polled}
 use Rattle.lent.specs.LentRules.{ReportedTo, PolledBy}
 use Rattle.text.specs.Addresses.{MessageRead}
-use Rattle.text.specs.Fields.{Found}
+use Rattle.text.specs.Fields.{Found, fields, Parted, PartsAt}
 use Rattle.text.specs.Place.{Put}
 use Rattle.text.specs.declared.print.Text.{Text}
 use Rattle.lines.specs.EventLines.{ParsedTo}
@@ -56,7 +57,28 @@ OneAnswer {A} Promised = (r r' : A) → Promised r → Promised r' → r ≡ r'
 abbrev pub OneAnswerLeaving : {A B : Type 0} → (A → B → Type 0) → Type 0
 OneAnswerLeaving {A} {B} Promised = (r r' : A) (left left' : B) → Promised r left → Promised r' left' → (r ≡ r') × (left ≡ left')
 
-pub record Determined : Type 0 where
+-- the same part: its bytes and where it begins, all that a program can read of it
+abbrev pub SamePart : Bor (List ℕ) → Bor (List ℕ) → Type 0
+SamePart p q = (p.now ≡ q.now) × (p.ref_ptr ≡ q.ref_ptr)
+
+-- the same two parts of a line, or none
+abbrev pub SameParts : Option (Bor (List ℕ) × Bor (List ℕ)) → Option (Bor (List ℕ) × Bor (List ℕ)) → Type 0
+SameParts None None = Unit {0}
+SameParts (Some p) (Some q) = SamePart p.0 q.0 × SamePart p.1 q.1
+SameParts None (Some q) = ⊥
+SameParts (Some p) None = ⊥
+
+-- what `split` promises of a line
+abbrev pub Splits : Bor (List ℕ) → Option (Bor (List ℕ) × Bor (List ℕ)) → Type 0
+Splits line r =
+    MatchOption r (fields line.now ≡ line.now ∷ []) (λ p. Parted line.now p.0.now p.1.now)
+    × IfSome r (λ p. PartsAt line p.0 p.1)
+
+pub record Determined : Type 1 where
+  -- table, of a closure whose answers are those of a test; of one that answers now so and now otherwise nothing is promised
+  pub position : {A : Type 0} (gives : A → Bool → Type 0) (test : A → Bool) → Decides gives test → (xs : List A) → OneAnswer (Finds gives xs)
+  pub retain : {A : Type 0} (gives : A → Bool → Type 0) (test : A → Bool) → Decides gives test → (n : ℕ) (slots : List A)
+      → OneAnswerLeaving (Keeps gives n slots)
   -- wire: the checks, and the address that a prefix forms
   pub check : (rows : List Row) → OneAnswer (Tested rows)
   pub from_link_prefix : (hw : HardwareAddress) (c : Ipv6Cidr) → OneAnswer (Forms hw c)
@@ -113,9 +135,10 @@ pub record Determined : Type 0 where
       → OneAnswerLeaving (TurnedTo card woken received hw buf)
   pub run : (card : LoopCard) (wake : Option Instant) (inbox : Inbox) (received : List ℕ) (hw : HardwareAddress) (buf : List ℕ) (budget : ℕ)
       → OneAnswerLeaving (RanTo card wake inbox received hw buf budget)
-  -- text: a message read into its buffer, the first byte of a kind, a text put at a place of a buffer
+  -- text: a message read into its buffer, the first byte of a kind, a line's two parts, a text put at a place of a buffer
   pub read_message : (field out : List ℕ) → OneAnswerLeaving (MessageRead field out)
   pub find : (bytes : List ℕ) (wanted : ℕ) → OneAnswer (Found bytes wanted)
+  pub split : (line : Bor (List ℕ)) (r r' : Option (Bor (List ℕ) × Bor (List ℕ))) → Splits line r → Splits line r' → SameParts r r'
   pub print : (out : List ℕ) (at : ℕ) (text : List ℕ) → OneAnswerLeaving (Put out at text)
   -- the event program: an event read, a listing printed, a line taken, the state printed
   pub parse_event : (line message : List ℕ) → OneAnswerLeaving (ParsedTo line message)
