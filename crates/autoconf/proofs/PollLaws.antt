@@ -145,6 +145,9 @@ module _ (s : Slaac) (d : Discovery) (t : IfaceAddrs) (r : Routes) (iface : ℕ)
 pub on_yes : {A : Type 0} (b : Bool) (x y p : A) → b ≡ true → p ≡ x → p ≡ cond b x y
 on_yes b x y p e f = simp e f
 
+pub on_no : {A : Type 0} (b : Bool) (x y p : A) → b ≡ false → p ≡ y → p ≡ cond b x y
+on_no b x y p e f = simp e f
+
 module _ (s : Slaac) (t : IfaceAddrs) (r : Routes) (iface : ℕ) (up : Bool) (hw : HardwareAddress) (buf : List ℕ) (k : Clock) where
   module _ (e : time_check k.now iface ≡ Ok tt) where
     -- by the checks, what is left of the promise

@@ -68,6 +68,15 @@ module _ {A : Type 0} (seen : A → Bool) where
       go true e = absurd (omega (arith, any_dropped xs e, h))
       go false e = refl
 
+  pub dropped_none : (xs : List A) → any_of seen xs ≡ false → length (dropped seen xs) ≤ 0
+  dropped_none [] h = omega arith
+  dropped_none (x ∷ xs) h = go (seen x) h (dropped_none xs)
+    where
+      go : (b : Bool) → cond b true (any_of seen xs) ≡ false → (any_of seen xs ≡ false → length (dropped seen xs) ≤ 0)
+          → length (cond b (x ∷ dropped seen xs) (dropped seen xs)) ≤ 0
+      go true g ih = absurd (true≢false g)
+      go false g ih = ih g
+
   -- a change of entries that do not pass leaves those that do
   first_apart : (test : A → Bool) (f : A → List A) (new xs : List A) → ((x : A) → test x ≡ true → dropped seen (f x) ≡ dropped seen (x ∷ []))
       → dropped seen new ≡ [] → dropped seen (at_first_is test f new xs) ≡ dropped seen xs

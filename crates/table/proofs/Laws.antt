@@ -1,7 +1,7 @@
 -- Laws of any table: `s` the slots, `n` the field `len`, `k` the number of entries.
 use Prim.Native.Nat.compare
 use Prim.Native.Nat.{ℕ, suc, zero, ◌+◌, ◌-◌, ◌<◌, ◌≤◌, min}
-use borrow.Author.Tests.{lt-ltb}
+use borrow.Author.Tests.{lt-ltb, le-ltb}
 use lib.Dec.{ltb}
 use lib.ListN.{length, take, drop, get_or, set, length-take, length-map, length-set, length-append, take-append-drop, drop_of_length-le}
 use lib.Seq.{drop-cons, take_all, set_split, get_or-take, get_or-drop, take-set-lt, drop-set-lt, take-suc-set, take-take, set-get_or, drop-drop, length-take-le}
@@ -263,6 +263,11 @@ pub record Finding {A : Type 0} (size : ℕ) (test : A → Bool) (f : A → List
 pub counted : {A : Type 0} (s : List A) (n size k : ℕ) → length s ≡ size → k ≡ min n size → k ≡ length (take n s)
 counted s n size k full e = omega (arith, length-take n s)
 
+pub finding : {A : Type 0} (size : ℕ) (test : A → Bool) (f : A → List A) (new s : List A) (n k : ℕ) → length s ≡ size → k ≡ min n size
+    → Finding size test f new s n k 0
+finding size test f new s n k full e =
+    record { low = omega arith; most = omega arith; full = full; count = counted s n size k full e; seeking = seek test f new (take n s) }
+
 module _ {A : Type 0} (d : A) {size : ℕ} {test : A → Bool} {f : A → List A} {new s : List A} {n k i : ℕ}
     (inv : Finding size test f new s n k i) where
   module _ (h : i < k) where
@@ -303,6 +308,11 @@ pub record Scanning {A B : Type 0} (size : ℕ) (test : A → Bool) (f : A → B
   pub count : k ≡ length (take n s)
   pub same : first_of test f none (drop i (take n s)) ≡ first_of test f none (take n s)
 
+pub scanning : {A B : Type 0} (size : ℕ) (test : A → Bool) (f : A → B) (none : B) (s : List A) (n k : ℕ) → length s ≡ size → k ≡ min n size
+    → Scanning size test f none s n k 0
+scanning size test f none s n k full e =
+    record { low = omega arith; most = omega arith; full = full; count = counted s n size k full e; same = refl }
+
 module _ {A B : Type 0} (d : A) {size : ℕ} {test : A → Bool} {f : A → B} {none : B} {s : List A} {n k i : ℕ}
     (inv : Scanning size test f none s n k i) where
   module _ (h : i < k) where
@@ -325,6 +335,11 @@ pub record Folding {A B : Type 0} (size : ℕ) (step : B → A → B) (b₀ : B)
   pub full : length s ≡ size
   pub count : k ≡ length (take n s)
   pub same : fold_over step b (drop i (take n s)) ≡ fold_over step b₀ (take n s)
+
+pub folding : {A B : Type 0} (size : ℕ) (step : B → A → B) (b₀ : B) (s : List A) (n k : ℕ) → length s ≡ size → k ≡ min n size
+    → Folding size step b₀ s n k 0 b₀
+folding size step b₀ s n k full e =
+    record { low = omega arith; most = omega arith; full = full; count = counted s n size k full e; same = refl }
 
 module _ {A B : Type 0} (d : A) {size : ℕ} {step : B → A → B} {b₀ : B} {s : List A} {n k i : ℕ} {b : B}
     (inv : Folding size step b₀ s n k i b) where
@@ -354,6 +369,10 @@ pub record Mapping {A : Type 0} (size : ℕ) (f : A → A) (s₀ : List A) (n k 
   pub count : k ≡ length (take n s₀)
   pub done : take i s ++ map f (drop i (take n s₀)) ≡ map f (take n s₀)
   pub rest : drop i s ≡ drop i s₀
+
+pub mapping : {A : Type 0} (size : ℕ) (f : A → A) (s : List A) (n k : ℕ) → length s ≡ size → k ≡ min n size → Mapping size f s n k s 0
+mapping size f s n k full e =
+    record { low = omega arith; most = omega arith; full = full; count = counted s n size k full e; done = refl; rest = refl }
 
 module _ {A : Type 0} (d : A) {size : ℕ} {f : A → A} {s₀ : List A} {n k : ℕ} {s : List A} {i : ℕ} (inv : Mapping size f s₀ n k s i) where
   -- the entry that is read is the old one
@@ -390,6 +409,18 @@ module _ {A : Type 0} (d : A) {size : ℕ} {f : A → A} {s₀ : List A} {n k : 
       let p : take i s ≡ map f es = sym (append-nil (take i s)) ∙ (simp (drop_of_length-le es l) at inv.done) in
       let c : length (map f es) ≡ i = length-map es f ∙ omega (arith, inv.count) in
       record { slots = made s₀ s (map f es) i c p inv.rest; count = sym (c ∙ e) }
+
+-- The entry at an index, for a listing
+module _ {A B : Type 0} (d : A) (f : A → B) (none : B) (s : List A) (n size k i : ℕ) (full : length s ≡ size) (e : k ≡ min n size) where
+  pub at_entry : i < k → f (get_or s i d) ≡ cond (ltb i (length (take n s))) (f (get_or (take n s) i d)) none
+  at_entry h =
+      let l : i < length (take n s) = omega (arith, counted s n size k full e) in
+      rw (lt-ltb i (length (take n s)) l, entry_at d s n i l)
+
+  pub at_none : k ≤ i → none ≡ cond (ltb i (length (take n s))) (f (get_or (take n s) i d)) none
+  at_none h =
+      let l : length (take n s) ≤ i = omega (arith, counted s n size k full e) in
+      rw (le-ltb i (length (take n s)) l)
 
 -- Fewer are kept exactly if some are gone
 module _ {A : Type 0} (gone : A → Bool) where

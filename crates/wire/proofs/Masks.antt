@@ -7,7 +7,7 @@ use lib.Pow.{pow-add, shl-shr, shr-shr, field, mod-mod-pow}
 use lib.Seq.{get_or-append-add}
 use mathlib.Core.Bool.{Bool, true, false, cond}
 use mathlib.Core.Path.{◌≡◌, refl, sym, ap, ◌∙◌, subst}
-use native.Mathlib.Nat.{div-one, div-mul-le_self, lt_of_le_of_lt, mul_assoc, mul-mod_left, mul-one, zero-div}
+use native.Mathlib.Nat.{div-one, div-mul-le_self, lt_of_le_of_lt, mod-eq_of_lt, mul_assoc, mul-mod_left, mul-one, zero-div}
 use native.Mathlib.Omega.{arith}
 use Rattle.wire.specs.Masks.{bit_at, Halves, Masks}
 use Rattle.wire.specs.Numbers.{bytes64}
@@ -21,6 +21,10 @@ all_cleared k x h = ap (λ (t : Bool). cond t 0 (x / 2 ^ k * 2 ^ k)) (le-leb 64 
 
 some_cleared : (k x : ℕ) → k < 64 → clear_low k x ≡ x / 2 ^ k * 2 ^ k
 some_cleared k x h = ap (λ (t : Bool). cond t 0 (x / 2 ^ k * 2 ^ k)) (lt-leb 64 k h)
+
+-- to the right and back, nothing leaves the half on its left
+pub shifted_back : (k x : ℕ) → x < 2 ^ 64 → k < 64 → (x / 2 ^ k * 2 ^ k) % 2 ^ 64 ≡ clear_low k x
+shifted_back k x h l = mod-eq_of_lt (lt_of_le_of_lt (div-mul-le_self x (2 ^ k)) h) ∙ sym (some_cleared k x l)
 
 -- below 64, or from there on: of so many bits cleared, and of a bit's place
 by_half : (P : Type 0) (i : ℕ) → (i < 64 → P) → (64 ≤ i → P) → P
