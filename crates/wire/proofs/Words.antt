@@ -1,4 +1,4 @@
--- Numbers as std writes them in network order are those of Numbers, and an octet with a bit turned over. Assumes nothing.
+-- Numbers as std writes and reads them in network order are those of Numbers, and an octet with a bit turned over. Assumes nothing.
 use Prim.Native.Nat.{ℕ, ◌+◌, ◌-◌, ◌*◌, ◌/◌, ◌%◌, ◌^◌, ◌<◌}
 use lib.Bits.{bit_and, bit_xor, xor_add_and, and_zero_r}
 use borrow.Author.Tests.{eqb-true, eqb-false}
@@ -8,8 +8,8 @@ use mathlib.Core.List.{[], ◌∷◌}
 use mathlib.Core.Path.{◌≡◌, refl, sym, ap, ◌∙◌}
 use native.Mathlib.Omega.{arith}
 use Rattle.std.proofs.lemmas.Nat.{div-add-mod', and_block, and_mask}
-use Rattle.std.specs.Int.{w16, w32, w64, to_be_bytes}
-use Rattle.wire.specs.Numbers.{bytes16, bytes32, bytes64}
+use Rattle.std.specs.Int.{w16, w32, w64, to_be_bytes, from_be_bytes}
+use Rattle.wire.specs.Numbers.{be16, be32, be64, bytes16, bytes32, bytes64}
 use Rattle.wire.specs.Rfc2464.{flipped}
 
 pub sent16 : (n : ℕ) → n < 2 ^ 16 → to_be_bytes w16 n ≡ bytes16 n
@@ -36,6 +36,16 @@ sent64 n h =
     let g : n / 256 % 256 ≡ n % 4294967296 % 65536 / 256 = omega arith in
     let k : n % 256 ≡ n % 4294967296 % 65536 % 256 = omega arith in
     λ i. a i ∷ b i ∷ c i ∷ d i ∷ e i ∷ f i ∷ g i ∷ k i ∷ []
+
+pub read16 : (a b : ℕ) → from_be_bytes w16 (a ∷ b ∷ []) ≡ be16 a b
+read16 a b = omega arith
+
+pub read32 : (a b c d : ℕ) → from_be_bytes w32 (a ∷ b ∷ c ∷ d ∷ []) ≡ be32 (be16 a b) (be16 c d)
+read32 a b c d = omega arith
+
+pub read64 : (a b c d e f g h : ℕ)
+    → from_be_bytes w64 (a ∷ b ∷ c ∷ d ∷ e ∷ f ∷ g ∷ h ∷ []) ≡ be64 (be32 (be16 a b) (be16 c d)) (be32 (be16 e f) (be16 g h))
+read64 a b c d e f g h = omega arith
 
 -- the bit of value 0x02, turned over
 pub turned_over : (b : ℕ) → bit_xor b 2 ≡ flipped b
