@@ -223,6 +223,9 @@ fill_bad_by None = refl
 pub fill_one : (s : List ℕ) → fields s ≡ s ∷ [] → None ≡ fill_of (fields s)
 fill_one s e = rw e (sym (fill_bad_by (address_of s)))
 
+pub fill_with_lem : (s f rest : List ℕ) (x : Option Ipv6Addr) (y : Option HardwareAddress) → Parted s f rest → address_of f ≡ x → hardware_of rest ≡ y → fill_with x y ≡ fill_of (fields s)
+fill_with_lem s f rest x y cut p q = rw (cut.is, p, last_hardware rest, q) refl
+
 -- ---- header lines
 
 pub mac_one : (s : List ℕ) → fields s ≡ s ∷ [] → None ≡ mac_of (fields s)
