@@ -1,6 +1,6 @@
 use Rattle.std.proofs.Common.{arith, refl, sym, ap, None, inl, inr, ◌∙◌}
 use Rattle.script.proofs.ReadingLaws.{too_long, says, over, address_falls, event_falls, as_rank, next_as, static_as, happens_as}
-use Rattle.script.specs.ReadingRules.{mac_said, addresses_said, address_said, events_said, event_said}
+use Rattle.script.specs.ReadingRules.{addresses_said, address_said, events_said, event_said}
 use Rattle.script.specs.declared.reading.Want.TheVariants.{Mac, Addresses, Address, Events, Event, Nothing}
 use Rattle.script.proofs.reading.read_line.Goals as goal
 
@@ -8,10 +8,10 @@ pub returns-then-line-gt-LINE_MAX : goal.returns-then-line-gt-LINE_MAX
 returns-then-line-gt-LINE_MAX c = too_long _ _ _ c.if-line-gt-LINE_MAX.true
 
 pub returns-in_err-hardware_addr-in-Mac : goal.returns-in_err-hardware_addr-in-Mac
-returns-in_err-hardware_addr-in-Mac c = rw c.from_residual.ensures (says _ _ _ _ c.if-line-gt-LINE_MAX.false Mac None c.in-Mac.is (sym (ap mac_said (sym c.mac.ensures ∙ c.in_err-hardware_addr-in-Mac.was))) refl tt (omega arith))
+returns-in_err-hardware_addr-in-Mac c = rw c.from_residual.ensures (says _ _ _ _ c.if-line-gt-LINE_MAX.false Mac None c.in-Mac.is (grind arith) refl tt (omega arith))
 
 pub returns-in_ok-hardware_addr-in-Mac : goal.returns-in_ok-hardware_addr-in-Mac
-returns-in_ok-hardware_addr-in-Mac c = says _ _ _ _ c.if-line-gt-LINE_MAX.false Mac _ c.in-Mac.is (sym (ap mac_said (sym c.mac.ensures ∙ c.in_ok-hardware_addr-in-Mac.was))) refl tt (omega arith)
+returns-in_ok-hardware_addr-in-Mac c = says _ _ _ _ c.if-line-gt-LINE_MAX.false Mac _ c.in-Mac.is (grind arith) refl tt (omega arith)
 
 pub returns-in_err-counted-in-Addresses : goal.returns-in_err-counted-in-Addresses
 returns-in_err-counted-in-Addresses c = rw c.from_residual-in_err-counted-in-Addresses.ensures (says _ _ _ _ c.if-line-gt-LINE_MAX.false Addresses None c.in-Addresses.is (sym (ap addresses_said (sym c.counted.ensures ∙ c.in_err-counted-in-Addresses.was))) refl tt (omega arith))
