@@ -10,6 +10,9 @@ use std::rt::Files;
 use streams::sink::{Sink, Target};
 use text::print::Text;
 
+// More cases than there are.
+const MOST: u64 = 100000;
+
 // Cases that are held to wrong answers too: one whose output is a few lines, and one of several blocks.
 const SHORT: u64 = 1;
 
@@ -94,7 +97,7 @@ fn one_case<R: Files>(rt: &R, kind: Kind, number: u64, suffix: &str) -> Case {
 fn recorded(rt: &(impl Files + Print), kind: Kind, suffix: &str, what: &str) -> io::Result<()> {
     let mut cases: u64 = 0;
     let mut same: u64 = 0;
-    for number in 1.. {
+    for number in 1..=MOST {
         match one_case(rt, kind, number, suffix) {
             Case::Same => same = same.wrapping_add(1),
             Case::Differs => println!(rt; "differs: {number}")?,
