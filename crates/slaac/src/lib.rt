@@ -483,7 +483,7 @@ impl Slaac {
     }
 
     // Discovery from the start, as after the link was down (RFC 4861, 6.3.7); what is known stays.
-    pub fn restart(self, iface: u8) -> Changed
+    pub fn restart(mut self, iface: u8) -> Changed
         ensures { RestartedTo self iface result }
     {
         if let Err(why) = check_iface(iface) {
@@ -492,16 +492,11 @@ impl Slaac {
                 outcome: Err(why),
             };
         }
-        let slaac = if self.on {
-            Slaac {
-                discovery: Discovery::new(),
-                ..self
-            }
-        } else {
-            self
-        };
+        if self.on {
+            self.discovery = Discovery::new();
+        }
         Changed {
-            slaac,
+            slaac: self,
             outcome: Ok(()),
         }
     }
@@ -516,8 +511,15 @@ impl Slaac {
                 outcome: Err(why),
             };
         }
+        // Returned early: as one value, the two would meet in a copy more.
+        if self.on {
+            return Changed {
+                slaac: self,
+                outcome: Ok(()),
+            };
+        }
         Changed {
-            slaac: if self.on { self } else { Slaac::new() },
+            slaac: Slaac::new(),
             outcome: Ok(()),
         }
     }
