@@ -20,25 +20,23 @@ fn still_preferred(prefix: Prefix, now: Instant) -> Preferred
     Preferred::Never
 }
 
-// What the prefix forms comes or stays while it is valid, and goes when it is not, if it is SLAAC's.
-fn sync_prefix(
-    mut addrs: IfaceAddrs,
-    prefix: Prefix,
-    hardware_addr: HardwareAddress,
-    now: Instant,
-) -> IfaceAddrs
-    ensures { result ≡ sync_prefix hardware_addr now addrs prefix }
+// What the prefix forms comes or stays while it is valid, and goes when it is not, if it is SLAAC's. The table is lent: by value, each
+// prefix would copy it in and out.
+fn sync_prefix(addrs: &mut IfaceAddrs, prefix: Prefix, hardware_addr: HardwareAddress, now: Instant)
+    ensures { addrs.new ≡ sync_prefix hardware_addr now addrs.old prefix }
 {
     let Formed::Addr(cidr) = prefix.cidr.from_link_prefix(hardware_addr) else {
-        return addrs;
+        return;
     };
     if !prefix.is_valid(now) {
-        return addrs.drop_addr(cidr);
+        *addrs = addrs.drop_addr(cidr);
+        return;
     }
     let preferred = still_preferred(prefix, now);
     let count = count_of(addrs.len, IFACE_ADDR_COUNT);
     addrs.len = count;
-    if let Some(at) = table::position(&addrs.slots[..count], |existing| existing.cidr == cidr) {
+    let slots: &[IfaceAddr] = &addrs.slots;
+    if let Some(at) = table::position(&slots[..count], |existing| existing.cidr == cidr) {
         // SLAAC's own takes the new time, sooner or later than before: so a router retires a prefix. What the application added is
         // the application's.
         if addrs.slots[at].origin.is_slaac() {
@@ -48,7 +46,7 @@ fn sync_prefix(
                 ..addrs.slots[at]
             };
         }
-        return addrs;
+        return;
     }
     if count < IFACE_ADDR_COUNT {
         addrs.slots[count] = IfaceAddr {
@@ -58,26 +56,29 @@ fn sync_prefix(
         };
         addrs.len = count + 1;
     }
-    addrs
 }
 
 // A valid router is a default route, and the route of an expired one goes. The application's route by the same router does not stand in
 // its way. Beside `sync_prefix`: other fields are stored, and every router has a route.
-fn sync_router(mut routes: Routes, router: Router, iface: u8, now: Instant) -> Routes
-    ensures { result ≡ sync_router iface now routes router }
+fn sync_router(routes: &mut Routes, router: Router, iface: u8, now: Instant)
+    ensures { routes.new ≡ sync_router iface now routes.old router }
 {
     if !router.is_valid(now) {
-        return routes.drop_route(iface, router.addr);
+        *routes = routes.drop_route(iface, router.addr);
+        return;
     }
     let expires_at = Expiry::At(router.valid_until);
     let count = count_of(routes.len, ROUTE_COUNT);
     routes.len = count;
-    let entries = &routes.slots[..count];
-    if let Some(at) = table::position(entries, |existing| existing.installed(iface, router.addr)) {
+    let slots: &[Route] = &routes.slots;
+    if let Some(at) = table::position(
+        &slots[..count],
+        |existing| existing.installed(iface, router.addr),
+    ) {
         let existing = &mut routes.slots[at];
         existing.origin = RouteOrigin::Slaac;
         existing.expires_at = expires_at;
-        return routes;
+        return;
     }
     if count < ROUTE_COUNT {
         routes.slots[count] = Route {
@@ -89,7 +90,6 @@ fn sync_router(mut routes: Routes, router: Router, iface: u8, now: Instant) -> R
         };
         routes.len = count + 1;
     }
-    routes
 }
 
 pub fn sync_addrs(
@@ -102,7 +102,7 @@ pub fn sync_addrs(
 {
     let count = count_of(slaac.prefix_count, SLAAC_PREFIX_COUNT);
     for prefix in &slaac.prefixes[..count] {
-        addrs = sync_prefix(addrs, *prefix, hardware_addr, now);
+        sync_prefix(&mut addrs, *prefix, hardware_addr, now);
     }
     addrs
 }
@@ -112,7 +112,7 @@ pub fn sync_routes(mut routes: Routes, slaac: Slaac, iface: u8, now: Instant) ->
 {
     let count = count_of(slaac.router_count, SLAAC_ROUTER_COUNT);
     for router in &slaac.routers[..count] {
-        routes = sync_router(routes, *router, iface, now);
+        sync_router(&mut routes, *router, iface, now);
     }
     routes
 }

@@ -24,7 +24,7 @@ bounds-addrs-at c =
 
 pub returns-then-is_slaac : goal.returns-then-is_slaac
 returns-then-is_slaac c =
-    let t = c.args.addrs in
+    let t = c.args.addrs.now in
     let full : length t.slots ≡ 8 = search (rules, mapped) in
     sync_put _ _ t _ _ _ _ _ (sym c.from_link_prefix.ensures.is ∙ c.in-Addr.is) (sym c.is_valid.ensures ∙ c.if-not-is_valid.false) c.still_preferred-preferred.ensures
     (put_refreshed c.in-Addr.cidr _ t.slots t.len _ _ full c.count_of-count.ensures (c.position.ensures (is_addr c.in-Addr.cidr) (λ x b q. search rules)) _ c.in-Some.is
@@ -32,7 +32,7 @@ returns-then-is_slaac c =
 
 pub returns-else-is_slaac : goal.returns-else-is_slaac
 returns-else-is_slaac c =
-    let t = c.args.addrs in
+    let t = c.args.addrs.now in
     let full : length t.slots ≡ 8 = search (rules, mapped) in
     sync_put _ _ t _ _ _ _ _ (sym c.from_link_prefix.ensures.is ∙ c.in-Addr.is) (sym c.is_valid.ensures ∙ c.if-not-is_valid.false) c.still_preferred-preferred.ensures
     (put_spared c.in-Addr.cidr _ t.slots t.len _ _ full c.count_of-count.ensures (c.position.ensures (is_addr c.in-Addr.cidr) (λ x b q. search rules)) _ c.in-Some.is
@@ -40,7 +40,7 @@ returns-else-is_slaac c =
 
 pub returns-then-count-lt-IFACE_ADDR_COUNT : goal.returns-then-count-lt-IFACE_ADDR_COUNT
 returns-then-count-lt-IFACE_ADDR_COUNT c =
-    let t = c.args.addrs in
+    let t = c.args.addrs.now in
     let full : length t.slots ≡ 8 = search (rules, mapped) in
     sync_put _ _ t _ _ _ _ _ (sym c.from_link_prefix.ensures.is ∙ c.in-Addr.is) (sym c.is_valid.ensures ∙ c.if-not-is_valid.false) c.still_preferred-preferred.ensures
     (put_end no_addr (is_addr c.in-Addr.cidr) (refreshed c.still_preferred-preferred.result) (slaac_addr c.in-Addr.cidr c.still_preferred-preferred.result) t.slots t.len _ _ full
@@ -48,7 +48,7 @@ returns-then-count-lt-IFACE_ADDR_COUNT c =
 
 pub returns-else-count-lt-IFACE_ADDR_COUNT : goal.returns-else-count-lt-IFACE_ADDR_COUNT
 returns-else-count-lt-IFACE_ADDR_COUNT c =
-    let t = c.args.addrs in
+    let t = c.args.addrs.now in
     let full : length t.slots ≡ 8 = search (rules, mapped) in
     sync_put _ _ t _ _ _ _ _ (sym c.from_link_prefix.ensures.is ∙ c.in-Addr.is) (sym c.is_valid.ensures ∙ c.if-not-is_valid.false) c.still_preferred-preferred.ensures
     (put_none no_addr (is_addr c.in-Addr.cidr) (refreshed c.still_preferred-preferred.result) (slaac_addr c.in-Addr.cidr c.still_preferred-preferred.result) t.slots t.len _ _ full

@@ -20,7 +20,7 @@ bounds-routes-at c =
 
 pub returns-in-Some : goal.returns-in-Some
 returns-in-Some c =
-    let t = c.args.routes in
+    let t = c.args.routes.now in
     let full : length t.slots ≡ 8 = search (rules, mapped) in
     route_put _ _ t _ _ _ (sym c.is_valid.ensures ∙ c.if-not-is_valid.false)
     (put_over_lem no_route (is_installed c.args.iface c.args.router.addr) (extended c.args.router.valid_until) (slaac_route c.args.iface c.args.router.addr c.args.router.valid_until)
@@ -28,7 +28,7 @@ returns-in-Some c =
 
 pub returns-then-count-lt-ROUTE_COUNT : goal.returns-then-count-lt-ROUTE_COUNT
 returns-then-count-lt-ROUTE_COUNT c =
-    let t = c.args.routes in
+    let t = c.args.routes.now in
     let full : length t.slots ≡ 8 = search (rules, mapped) in
     route_put _ _ t _ _ _ (sym c.is_valid.ensures ∙ c.if-not-is_valid.false)
     (put_end no_route (is_installed c.args.iface c.args.router.addr) (extended c.args.router.valid_until) (slaac_route c.args.iface c.args.router.addr c.args.router.valid_until)
@@ -36,7 +36,7 @@ returns-then-count-lt-ROUTE_COUNT c =
 
 pub returns-else-count-lt-ROUTE_COUNT : goal.returns-else-count-lt-ROUTE_COUNT
 returns-else-count-lt-ROUTE_COUNT c =
-    let t = c.args.routes in
+    let t = c.args.routes.now in
     let full : length t.slots ≡ 8 = search (rules, mapped) in
     route_put _ _ t _ _ _ (sym c.is_valid.ensures ∙ c.if-not-is_valid.false)
     (put_none no_route (is_installed c.args.iface c.args.router.addr) (extended c.args.router.valid_until) (slaac_route c.args.iface c.args.router.addr c.args.router.valid_until)
