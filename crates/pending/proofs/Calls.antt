@@ -2,7 +2,7 @@
 use Prim.Native.Nat.{ℕ, zero, suc, ◌-◌, ◌+◌, ◌≤◌, ◌<◌, min}
 use borrow.Author.Tests.{lt-ltb, le-ltb}
 use lib.ListN.{length, take, drop, set, get_or, length-take, length-drop, length-set, length-append}
-use lib.Seq.{take-append_seam, drop-append_seam, drop-set-lt, take-suc, take_all, get_or-take}
+use lib.Seq.{take-append_seam, drop-append_seam, drop-set-lt, take-suc, take_all}
 use mathlib.Core.Bool.{Bool, true, false, cond, not, true≢false}
 use mathlib.Core.List.{List, [], ◌∷◌, ◌++◌, append-nil}
 use mathlib.Core.Logic.{◌⊎◌, inl, inr}
@@ -28,7 +28,7 @@ use Rattle.pending.specs.declared.PendingQueue.{PendingQueue}
 use Rattle.pending.specs.declared.Purged.{Purged}
 use Rattle.pending.specs.declared.Pushed.{Pushed}
 use Rattle.pending.specs.declared.Released.{Released}
-use Rattle.table.proofs.Laws.{Made, made, counted, take_count, entry_at, entries_from, at_end, one_more, agree_from}
+use Rattle.table.proofs.Laws.{Made, made, counted, take_count, entry_at, entries_from, at_end, one_more, agree, agree_from}
 use Rattle.pending.proofs.Scans.{release_law}
 use Rattle.table.proofs.First.{first_from_law}
 use Rattle.table.proofs.Kept.{kept_append}
@@ -262,6 +262,7 @@ pub record Purging (gives : PendingPacket → Bool → Type 0) (q : Queue) (i : 
   pub wide : length s ≡ 8
   pub room : length h.slots ≡ 8
   pub parts : k + h.len ≡ i
+  pub rest : drop k s ≡ drop k q
   pub by : (goes : PendingPacket → Bool) → ((x : PendingPacket) (b : Bool) → gives x b → b ≡ not (goes x)) → Parted goes q i s k h
 
 not_not : (b c : Bool) → c ≡ not b → b ≡ not c
@@ -276,15 +277,18 @@ module _ {gives : PendingPacket → Bool → Type 0} {q : Queue} where
         wide = len;
         room = refl;
         parts = refl;
+        rest = refl;
         by = λ goes means. record { stay = record { slots = refl; count = refl }; go = record { slots = refl; count = refl } };
       }
 
-  module _ {n i : ℕ} {s : Queue} {k : ℕ} {h : Handles} (full : length q ≡ 8) (most : n ≤ 8) (inv : Purging gives q i s k h) (l : i < n) where
+  module _ {i : ℕ} {s : Queue} {k : ℕ} {h : Handles} (full : length q ≡ 8) (inv : Purging gives q i s k h) (l : i < 8) where
     abbrev x : PendingPacket
-    x = get_or (take n q) i blank
+    x = get_or s i blank
 
     next_one : take (i + 1) q ≡ take i q ++ (x ∷ [])
-    next_one = rw (add-one i) (take-suc q i blank (omega arith) ∙ ap (λ (y : PendingPacket). take i q ++ (y ∷ [])) (sym (get_or-take n q i blank l)))
+    next_one =
+        let same : x ≡ get_or q i blank = agree s q k i blank (omega (arith, inv.parts)) inv.rest in
+        rw (add-one i) (take-suc q i blank (omega arith) ∙ ap (λ (y : PendingPacket). take i q ++ (y ∷ [])) (sym same))
 
     pub one_stays : gives x true → Purging gives q (i + 1) (set s k x) (k + 1) h
     unfolding dropped_handles
@@ -293,6 +297,7 @@ module _ {gives : PendingPacket → Bool → Type 0} {q : Queue} where
           wide = length-set s k x ∙ inv.wide;
           room = inv.room;
           parts = omega (arith, inv.parts);
+          rest = drop-set-lt (k + 1) s k x (omega arith) ∙ agree_from s q k inv.rest;
           by =
               λ goes means.
               let p : Parted goes q i s k h = inv.by goes means in
@@ -312,6 +317,7 @@ module _ {gives : PendingPacket → Bool → Type 0} {q : Queue} where
           wide = inv.wide;
           room = length-set h.slots h.len x.handle ∙ inv.room;
           parts = omega (arith, inv.parts);
+          rest = inv.rest;
           by =
               λ goes means.
               let p : Parted goes q i s k h = inv.by goes means in

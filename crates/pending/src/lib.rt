@@ -1,7 +1,7 @@
 // The packets that wait for a neighbour's resolution: 32-bit handles under the keys of the neighbour cache, oldest first.
 #![tactic(auto)]
 
-ghost use Rattle.std.specs.Prelude.{◌≡◌, [], ◌∷◌, false};
+ghost use Rattle.std.specs.Prelude.{◌≡◌, [], ◌∷◌, false, Ok};
 ghost use Rattle.std.specs.Fn.{FnReturnsAt};
 ghost use Rattle.table.specs.Table.{first_of};
 ghost use Rattle.neighbor.specs.CacheCalls.{key};
@@ -68,6 +68,38 @@ fn is_awaited(state: State) -> bool
     ensures { result ≡ awaits state }
 {
     !matches!(state, State::Stale { .. })
+}
+
+// Keeps the packets that stay, in order. The answer is how many they are, and the handles of the others. The slots are lent: in the
+// answer they would be copied once more.
+fn purge<F: Fn(&PendingPacket) -> bool>(
+    slots: &mut [PendingPacket; PENDING_QUEUE_COUNT],
+    len: usize,
+    stays: F,
+) -> (usize, Handles)
+    requires { F.IsAlwaysCallable stays }
+    ensures { PurgesBy (λ x b. FnReturnsAt F.Fn stays x b) (record { slots = slots.old; len = len }) (record { queue = record { slots = slots.new; len = result.0 }; handles = result.1; outcome = Ok tt }) }
+{
+    let count = count_of(len, PENDING_QUEUE_COUNT);
+    let mut handles = [0; PENDING_QUEUE_COUNT];
+    let mut kept = 0;
+    let mut dropped = 0;
+    // By index, since the loop writes into the slots that it reads.
+    for i in 0..count {
+        let packet = slots[i];
+        if stays(&packet) {
+            slots[kept] = packet;
+            kept += 1;
+        } else {
+            handles[dropped] = packet.handle;
+            dropped += 1;
+        }
+    }
+    let handles = Handles {
+        slots: handles,
+        len: dropped,
+    };
+    (kept, handles)
 }
 
 impl PendingPacket {
@@ -190,7 +222,13 @@ impl PendingQueue {
         ensures { OrphansPurged self cache result }
     {
         let neighbors = &cache.slots[..count_of(cache.len, NEIGHBOR_CACHE_COUNT)];
-        self.purge(|packet| packet.is_awaited(neighbors))
+        let mut slots = self.slots;
+        let (len, handles) = purge(&mut slots, self.len, |packet| packet.is_awaited(neighbors));
+        Purged {
+            queue: PendingQueue { slots, len },
+            handles,
+            outcome: Ok(()),
+        }
     }
 
     // Drops the packets of an interface.
@@ -204,29 +242,10 @@ impl PendingQueue {
                 outcome: Err(why),
             };
         }
-        self.purge(|packet| packet.iface != iface)
-    }
-
-    // Keeps the packets that stay, in order, and hands back the handles of the others.
-    fn purge<F: Fn(&PendingPacket) -> bool>(self, stays: F) -> Purged
-        requires { F.IsAlwaysCallable stays }
-        ensures { PurgesBy (λ x b. FnReturnsAt F.Fn stays x b) self result }
-    {
-        let count = count_of(self.len, PENDING_QUEUE_COUNT);
         let mut slots = self.slots;
-        let mut kept = 0;
-        let mut handles = Handles::new();
-        for packet in &self.slots[..count] {
-            if stays(packet) {
-                slots[kept] = *packet;
-                kept += 1;
-            } else {
-                handles.slots[handles.len] = packet.handle;
-                handles.len += 1;
-            }
-        }
+        let (len, handles) = purge(&mut slots, self.len, |packet| packet.iface != iface);
         Purged {
-            queue: PendingQueue { slots, len: kept },
+            queue: PendingQueue { slots, len },
             handles,
             outcome: Ok(()),
         }

@@ -7,5 +7,5 @@ use borrow.Author.Tests.{tests}
 pub returns : goal.returns
 unfolding on_iface
 returns c =
-    purged_iface c.args.self c.args.iface c.purge.result (sym c.check_iface.ensures.is ∙ c.in_default.is)
-    (c.purge.ensures (on_iface c.args.iface) (λ x b k. search (rules, tests)))
+    purged_iface c.args.self c.args.iface _ (sym c.check_iface.ensures.is ∙ c.in_default.is)
+    (c.purge-len.ensures (on_iface c.args.iface) (λ x b k. search (rules, tests)))

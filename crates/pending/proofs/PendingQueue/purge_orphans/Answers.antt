@@ -8,5 +8,5 @@ use borrow.Author.Tests.{tests}
 pub returns : goal.returns
 returns c =
     let full : length c.args.cache.slots ≡ 16 = omega arith in
-    purged_orphans c.args.self c.args.cache c.purge.result
-    (c.purge.ensures (orphaned (entries c.args.cache)) (λ x b k. awaited_stays c.args.cache c.count_of.result full c.count_of.ensures x b (search (rules, tests))))
+    purged_orphans c.args.self c.args.cache _
+    (c.purge-len.ensures (orphaned (entries c.args.cache)) (λ x b k. awaited_stays c.args.cache c.count_of.result full c.count_of.ensures x b (search (rules, tests))))
