@@ -15,4 +15,4 @@ pub returns : goal.returns
 returns c =
     let found : option_map (λ (e : Bor Entry). e.now) c.find.result ≡ find (is_key (key_of c.args.self.now)) c.args.neighbors.now =
     find_from_yields_List (is_key (key_of c.args.self.now)) _ _ c.find.result c.find.ensures.ran (YieldsList-from_slice c.args.neighbors.now cc) (λ x b q k. search (rules, tests)) in
-    awaited_first (key_of c.args.self.now) c.args.neighbors.now c.find.result c.is_some_and.result found (search rules)
+    awaited_first (key_of c.args.self.now) c.args.neighbors.now c.find.result _ found (search rules)
