@@ -24,11 +24,11 @@ overflow_sub-addrs c =
 
 pub returns-then-is_slaac : goal.returns-then-is_slaac
 returns-then-is_slaac c =
-    drop_out c.args.self c.args.cidr _ (search rules) c.count_of-count.ensures _ (sym c.place_of.ensures ∙ c.in-Some.is) _ (sym c.is_slaac.ensures ∙ c.if-is_slaac.true) c.remove.ensures
+    drop_out c.args.self c.args.cidr _ (search rules) c.count_of-count.ensures _ (sym c.place_of.ensures ∙ c.in-Some.is) _ (search rules) c.remove.ensures
 
 pub returns-else-is_slaac : goal.returns-else-is_slaac
 returns-else-is_slaac c =
-    drop_stays c.args.self c.args.cidr _ (search rules) c.count_of-count.ensures _ (sym c.place_of.ensures ∙ c.in-Some.is) (sym c.is_slaac.ensures ∙ c.if-is_slaac.false)
+    drop_stays c.args.self c.args.cidr _ (search rules) c.count_of-count.ensures _ (sym c.place_of.ensures ∙ c.in-Some.is) (search rules)
 
 pub returns-in_default : goal.returns-in_default
 returns-in_default c = drop_none c.args.self c.args.cidr _ (search rules) c.count_of-count.ensures (sym c.place_of.ensures ∙ c.in_default.is)
