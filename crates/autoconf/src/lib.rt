@@ -164,12 +164,16 @@ pub fn process_advertisement(
         .slaac
         .process_router(source, router_lifetime, timestamp)
         .store_flags(header.managed, header.other_config);
-    let cache = match taught.lladdr {
-        Some(lladdr) if lladdr.is_unicast() => {
-            cache.fill(iface, source, lladdr, timestamp).cache
+    if let Some(lladdr) = taught.lladdr {
+        if lladdr.is_unicast() {
+            // An exit of its own: where both lead to one answer, the cache is copied once more.
+            return Advertised {
+                slaac: learned,
+                cache: cache.fill(iface, source, lladdr, timestamp).cache,
+                answer: Ok(AdvertAnswer::Done),
+            };
         }
-        _ => cache,
-    };
+    }
     Advertised {
         slaac: learned,
         cache,
