@@ -1,5 +1,5 @@
 -- Laws of what is learned.
-use Prim.Native.Nat.{ℕ, ◌<◌, ◌≤◌, min}
+use Prim.Native.Nat.{ℕ, ◌+◌, ◌<◌, ◌≤◌, min}
 use Rattle.std.proofs.Common.{Option, Some, None}
 use Rattle.slaac.proofs.SlotLaws.{placed, unplaced, sought, passes}
 use Rattle.table.specs.Calls.{place_of}
@@ -8,7 +8,7 @@ use borrow.Author.Tests.{lt-ltb, le-ltb}
 use lib.Dec.{ltb}
 use lib.ListN.{length, take, get_or, set}
 use mathlib.Core.Bool.{Bool, true, false, ◌||◌, not}
-use mathlib.Core.List.{List, []}
+use mathlib.Core.List.{List, [], ◌∷◌}
 use mathlib.Core.Path.{◌≡◌, refl, ap, sym, ◌∙◌}
 use native.Mathlib.Omega.{arith}
 use Rattle.slaac.specs.Fields.{with_prefixes, with_routers, with_sync}
@@ -19,7 +19,7 @@ use Rattle.slaac.specs.declared.Prefix.{Prefix}
 use Rattle.slaac.specs.declared.Router.{Router}
 use Rattle.slaac.specs.declared.Slaac.{Slaac}
 use Rattle.ndisc.specs.declared.ndiscoption.PrefixInformation.{PrefixInformation}
-use Rattle.table.proofs.Laws.{Made, found_over, found_any, absent_stays, absent_any}
+use Rattle.table.proofs.Laws.{Made, Finding, found_over, found_any, absent_end, absent_stays, absent_any}
 use Rattle.time.specs.TimeRules.{add_of}
 use Rattle.time.specs.declared.Duration.{Duration}
 use Rattle.time.specs.declared.Instant.{Instant}
@@ -63,6 +63,22 @@ prefix_put s p t n put full w =
     (record { slots = w.slots ∙ ap (λ (m : ℕ). filled s.prefixes (es m)) full; count = w.count ∙ ap (λ (m : ℕ). length (es m)) full })
     (ap (λ (b : Bool). s.sync_required || b) w.told ∙ ap asks full)
 
+module _ (s : Slaac) (p : Prefix) (k i : ℕ)
+    (inv : Finding 4 (is_prefix p.cidr) (put_over p) (if_room 4 (prefixes_of s) p) s.prefixes s.prefix_count k i) where
+  pub prefix_end_lem : k ≤ i → k < 4 → prefixed s (set s.prefixes k p) (k + 1) true ≡ add_prefix s p
+  unfolding add_prefix
+  prefix_end_lem h l =
+      let c : length (prefixes_of s) < 4 = omega (arith, inv.count) in
+      prefixes_made s _ _ (k + 1) true _ (absent_end no_prefix inv h p l (simp (lt-ltb (length (prefixes_of s)) 4 c)))
+      (met_alone s.sync_required _ (simp (absent_any no_prefix inv h, lt-ltb (length (prefixes_of s)) 4 c)))
+
+module _ (s : Slaac) (a : Ipv6Cidr) (now : Instant) (k i : ℕ) (inv : Finding 4 (is_prefix a) (prefix_ends now) [] s.prefixes s.prefix_count k i) where
+  pub prefix_ends_lem : (e : Prefix) → i < k → is_prefix a (get_or s.prefixes i no_prefix) ≡ true → prefix_ends now (get_or s.prefixes i no_prefix) ≡ e ∷ []
+      → prefixed s (set s.prefixes i e) k true ≡ expire_prefix s a now
+  unfolding expire_prefix
+  prefix_ends_lem e h q g =
+      prefixes_made s _ _ k true _ (found_over no_prefix inv h q e g) (met_alone s.sync_required _ (found_any no_prefix inv h q))
+
 module _ (s : Slaac) (a : Ipv6Cidr) (now : Instant) (k : ℕ) (r : Option ℕ) (full : length s.prefixes ≡ 4) (e : k ≡ min s.prefix_count 4)
     (p : r ≡ place_of (is_prefix a) (take k s.prefixes)) where
   pub prefix_found : (i : ℕ) → r ≡ Some i → prefixed s (set s.prefixes i (record { cidr = (get_or s.prefixes i no_prefix).cidr; preferred_until = At now; valid_until = At now })) k true ≡ expire_prefix s a now
@@ -100,6 +116,22 @@ router_put s p t n put full w =
     routers_made s (es 2) t n (s.sync_required || put) (asks 2)
     (record { slots = w.slots ∙ ap (λ (m : ℕ). filled s.routers (es m)) full; count = w.count ∙ ap (λ (m : ℕ). length (es m)) full })
     (ap (λ (b : Bool). s.sync_required || b) w.told ∙ ap asks full)
+
+module _ (s : Slaac) (p : Router) (k i : ℕ)
+    (inv : Finding 2 (is_router p.addr) (put_over p) (if_room 2 (routers_of s) p) s.routers s.router_count k i) where
+  pub router_end_lem : k ≤ i → k < 2 → routered s (set s.routers k p) (k + 1) true ≡ add_router s p
+  unfolding add_router
+  router_end_lem h l =
+      let c : length (routers_of s) < 2 = omega (arith, inv.count) in
+      routers_made s _ _ (k + 1) true _ (absent_end no_router inv h p l (simp (lt-ltb (length (routers_of s)) 2 c)))
+      (met_alone s.sync_required _ (simp (absent_any no_router inv h, lt-ltb (length (routers_of s)) 2 c)))
+
+module _ (s : Slaac) (a : Ipv6Addr) (now : Instant) (k i : ℕ) (inv : Finding 2 (is_router a) (router_ends now) [] s.routers s.router_count k i) where
+  pub router_ends_lem : (e : Router) → i < k → is_router a (get_or s.routers i no_router) ≡ true → router_ends now (get_or s.routers i no_router) ≡ e ∷ []
+      → routered s (set s.routers i e) k true ≡ expire_router s a now
+  unfolding expire_router
+  router_ends_lem e h q g =
+      routers_made s _ _ k true _ (found_over no_router inv h q e g) (met_alone s.sync_required _ (found_any no_router inv h q))
 
 module _ (s : Slaac) (a : Ipv6Addr) (now : Instant) (k : ℕ) (r : Option ℕ) (full : length s.routers ≡ 2) (e : k ≡ min s.router_count 2)
     (p : r ≡ place_of (is_router a) (take k s.routers)) where
