@@ -227,9 +227,9 @@ module _ (c : NeighborCache) (k : Key) (st : State) (n : ℕ) (full : length c.s
   entry_count : n ≡ length (entries c)
   entry_count = counted c.slots c.len 16 n full e
 
-  pub put_over : (i : ℕ) → Some i ≡ place_of (is_key k) (entries c) → Put i n
+  pub put_over_lem : (i : ℕ) → Some i ≡ place_of (is_key k) (entries c) → Put i n
   unfolding find
-  put_over i p =
+  put_over_lem i p =
       let q = found_at (is_key k) (entries c) i p in
       let w = put_known k st (entries c) i (sym q.1) q.0 in
       changed_to_lem c (insert_state k st (entries c))
