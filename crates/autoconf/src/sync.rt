@@ -35,6 +35,7 @@ fn sync_prefix(addrs: &mut IfaceAddrs, prefix: Prefix, hardware_addr: HardwareAd
     let preferred = still_preferred(prefix, now);
     let count = count_of(addrs.len, IFACE_ADDR_COUNT);
     addrs.len = count;
+    // By a name of its own: behind a reference, the array's length is seen by way of a slice.
     let slots: &[IfaceAddr] = &addrs.slots;
     if let Some(at) = table::position(&slots[..count], |existing| existing.cidr == cidr) {
         // SLAAC's own takes the new time, sooner or later than before: so a router retires a prefix. What the application added is

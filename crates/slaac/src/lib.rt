@@ -511,7 +511,7 @@ impl Slaac {
                 outcome: Err(why),
             };
         }
-        // Returned early: as one value, the two would meet in a copy more.
+        // An exit of its own: as one value, the two would be copied once more.
         if self.on {
             return Changed {
                 slaac: self,
