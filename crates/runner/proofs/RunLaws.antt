@@ -103,8 +103,8 @@ pub record Kept {W R : Type 0} (holds : W → Option (List ℕ)) (target₀ : Ta
   pub room : Room out
 
 module _ {W R : Type 0} {holds : W → Option (List ℕ)} {target₀ target target' : Target W R} {sink₀ : Sink} {text : List ℕ} {run : Progress}
-    {sink : Sink} {line : List ℕ} {out : Text} {r : Progress} {sink' : Sink} {out' : Text} (k : Kept holds target₀ sink₀ text sink out target)
-    (t : Turned run sink line out (Ok r) sink' out') (q : Handed holds target (turned_at run out line) out'.buf.now (Ok r) target') where
+    {sink : Sink} {line : List ℕ} {out : Text} {r : Progress} {done : Unit {0}} {sink' : Sink} {out' : Text} (k : Kept holds target₀ sink₀ text sink out target)
+    (t : Turned run sink line out (Ok r) sink' out') (q : Handed holds target (turned_at run out line) out'.buf.now (Ok done) target') where
   gathers : take t.to out'.buf.now ≡ take out.at out.buf.now ++ said run line
   gathers =
       let p = t.put in
@@ -315,8 +315,8 @@ module _ {W R : Type 0} {holds : W → Option (List ℕ)} {target₀ target : Ta
       wrote = λ z. absurd (z y);
     }
 
-    module _ {next : Progress} {sink' : Sink} {out' : Text} {target' : Target W R} (t : Turned run sink (bytes buf' from to) out (Ok next) sink' out')
-        (w : Handed holds target (turned_at run out (bytes buf' from to)) out'.buf.now (Ok next) target') where
+    module _ {next : Progress} {done : Unit {0}} {sink' : Sink} {out' : Text} {target' : Target W R} (t : Turned run sink (bytes buf' from to) out (Ok next) sink' out')
+        (w : Handed holds target (turned_at run out (bytes buf' from to)) out'.buf.now (Ok done) target') where
       pub bad_line_lem : {out'' : Text} {ran : Ending} {sink'' : Sink} (target'' : Target W R) → failed next.want ≡ true
           → Finished next sink' (Err (BadLine run.number)) out' ran sink'' out''
           → Gone holds target' (ended_at next out' (Err (BadLine run.number))) out''.buf.now ran target'' → RunTo holds target₀ buf₀ sink₀ ran sink'' buf' target''

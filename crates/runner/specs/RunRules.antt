@@ -65,6 +65,11 @@ pub record NextOf (run : Progress) (line : List ℕ) (next : Progress) : Type 0 
   pub card : next.card ≡ (step_of run.want run.card line).card
   pub falls : 0 < rank run.want → rank next.want < rank run.want
 
+-- what the line leaves, if the output went well
+abbrev pub with_next : Result (Unit {0}) NotWritten → Progress → Result Progress NotWritten
+with_next (Ok u) next = Ok next
+with_next (Err e) next = Err e
+
 -- its text was put after what is gathered, and that was flushed; `to` is the place after its text
 pub record Turned (run : Progress) (before : Sink) (line : List ℕ) (t : Text) (r : Result Progress NotWritten) (after : Sink) (t' : Text)
     : Type 0 where

@@ -6,7 +6,7 @@ ghost use Rattle.std.specs.Prelude.{◌≡◌, ◌<◌, ◌≤◌, length};
 ghost use Rattle.text.specs.Gathered.{IsSameBuffer};
 ghost use Rattle.streams.specs.Writing.{is_written};
 ghost use Rattle.runner.specs.OutputRules.{failed, complete, end_of, end_text};
-ghost use Rattle.runner.specs.RunRules.{begun_run, Room, AddsWhole, FlushedTo, Handed, Turned, Ends, Finished, Gone, turned_at, ended_at, RunTo, RunOf, unwritten};
+ghost use Rattle.runner.specs.RunRules.{begun_run, Room, AddsWhole, FlushedTo, Handed, Turned, with_next, Ends, Finished, Gone, turned_at, ended_at, RunTo, RunOf, unwritten};
 
 use report::answer;
 use script::card::Card;
@@ -107,25 +107,24 @@ fn begun() -> Progress
 
 // One line is carried out, and what it printed is gathered or handed over.
 fn turn<W: Write, R: Read>(
-    run: Progress,
+    run: &mut Progress,
     sink: &mut Sink,
     target: &mut Target<W, R>,
     line: &[u8],
     out: &mut Text,
-) -> Result<Progress, NotWritten>
+) -> Result<(), NotWritten>
     requires { Room out.old }
-    ensures turned { Turned run sink.old line.now out.old result sink.new out.new }
+    ensures turned { Turned run.old sink.old line.now out.old (with_next result run.new) sink.new out.new }
     ensures kind { is_written target.new ≡ is_written target.old }
-    ensures handed { Handed W.contents target.old (turned_at run out.old line.now) out.new.buf.now result target.new }
+    ensures handed { Handed W.contents target.old (turned_at run.old out.old line.now) out.new.buf.now result target.new }
     ensures same_buffer { IsSameBuffer out.old out.new }
 {
     let after = run.card.step(run.want, line, out);
     flush(sink, target, out)?;
-    Ok(Progress {
-        number: run.number.wrapping_add(1),
-        want: after.want,
-        card: after.card,
-    })
+    run.number = run.number.wrapping_add(1);
+    run.want = after.want;
+    run.card = after.card;
+    Ok(())
 }
 
 // How the run ends where the reader has no line: with the state after the last event, or with a line that is missing or too
@@ -217,7 +216,7 @@ fn run_lines<I: Read, W: Write, R: Read>(
             return finish(run, sink, target, end, out);
         };
         let number = run.number;
-        run = turn(run, sink, target, &buf[from..to], out)?;
+        turn(&mut run, sink, target, &buf[from..to], out)?;
         if is_failed(run.want) {
             return finish(run, sink, target, Err(RunError::BadLine(number)), out);
         }

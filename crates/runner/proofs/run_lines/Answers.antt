@@ -29,21 +29,21 @@ slice_bounds-turn-end g c =
     let h = line_held c.loop-line.invariant.0 _ _ _ c.in-Ok.ensures (ap Ok c.in-At.is) in
     omega (arith, h.high)
 
-pub returns-in_err-run-clause-run : goal.returns-in_err-run-clause-run
-returns-in_err-run-clause-run g c =
+pub returns-in_err-turn-clause-run : goal.returns-in_err-turn-clause-run
+returns-in_err-turn-clause-run g c =
     let p = err_from_is_err_and c.from_residual.result c.from_residual.ensures.1 in
     not_written c.loop-line.invariant.0 _ _ _ c.in-Ok.ensures (ap Ok c.in-At.is) (p.1 ∙ ap Err p.2)
 
 pub returns-then-is_failed-clause-run : goal.returns-then-is_failed-clause-run
 returns-then-is_failed-clause-run g c =
-    bad_line_lem c.loop-line.invariant.0 _ _ _ c.in-Ok.ensures (ap Ok c.in-At.is) c.in_ok-run.ensures.turned c.in_ok-run.ensures.handed
+    bad_line_lem c.loop-line.invariant.0 _ _ _ c.in-Ok.ensures (ap Ok c.in-At.is) c.in_ok-turn.ensures.turned c.in_ok-turn.ensures.handed
     c.finish-then-is_failed.new.target (sym c.is_failed.ensures ∙ c.if-is_failed.true) c.finish-then-is_failed.ensures.finished
     c.finish-then-is_failed.ensures.gone
 
 pub loop-line-preserved : goal.loop-line-preserved
 loop-line-preserved g c = (
-  turned_on c.loop-line.invariant.0 _ _ _ c.in-Ok.ensures (ap Ok c.in-At.is) c.in_ok-run.ensures.turned c.in_ok-run.ensures.handed
+  turned_on c.loop-line.invariant.0 _ _ _ c.in-Ok.ensures (ap Ok c.in-At.is) c.in_ok-turn.ensures.turned c.in_ok-turn.ensures.handed
       (sym c.is_failed.ensures ∙ c.if-is_failed.false),
-  c.in_ok-run.ensures.kind ∙ c.loop-line.invariant.1,
-  c.in_ok-run.ensures.same_buffer ∙ c.loop-line.invariant.2,
+  c.in_ok-turn.ensures.kind ∙ c.loop-line.invariant.1,
+  c.in_ok-turn.ensures.same_buffer ∙ c.loop-line.invariant.2,
 )
